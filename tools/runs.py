@@ -12,7 +12,7 @@ import sys
 from pathlib import Path
 
 import stories
-from paxos_model import KINDS, MESSAGE, encoding
+from ranged_model import parts_in, text_of
 from runs_model import drawn, is_lawful, lines_of, schedules
 from tellers.run import Teller
 from toolbox import show_help
@@ -42,14 +42,7 @@ def md5(text):
 
 def message_text(said):
     """The bytes of a message."""
-    parts = {"kind": KINDS.index(said["what"]), "sender": said["sender"], "slot": said["slot"], "value": said["value"]}
-    second = said["promised"]
-    if said["report"]:
-        second, parts["value"] = said["report"]
-    for ballot, names in ((said["ballot"], ("round", "node")), (second, ("second round", "second node"))):
-        if ballot:
-            parts |= dict(zip(names, ballot))
-    return encoding(MESSAGE, parts)
+    return text_of(parts_in(said))
 
 
 def spelled(text):

@@ -10,7 +10,10 @@ docs/FORMATS.md, and not from the code. It keeps whole lists: every message that
                                   clients are not safe
     tools/runs_model.py --write   writes the lines of those schedules
 
-A value is its bytes, none for a no-op; a ballot is a pair of its round and its node; a message is a dictionary as in paxos_model.py."""
+A schedule may have a member `ranged`, which the program skips yet: with `true` a node asks for a promise of all slots from a first one
+on, and a majority's promises then serve for one upload after another (ranged_model.py; tools/ranged.py checks such runs).
+
+A value is its bytes, none for a no-op; a ballot is a pair of its round and its node; a message is a dictionary as in ranged_model.py."""
 import json
 import random
 import sys
@@ -23,7 +26,8 @@ sys.path.append(str(TOP / "crates" / "flatbuf_meta" / "vectors"))
 import canonical
 from batch_model import canonical as canonical_batch
 from batch_model import type_of
-from paxos_model import MAX_ROUND, is_majority, may_follow
+from paxos_model import MAX_ROUND, is_majority
+from ranged_model import Acceptor, Attempt, first_breach, message
 from toolbox import show_help
 from wire_model import bytes_field, frame
 
@@ -126,31 +130,48 @@ class Refused(Exception):
     """Why an event was refused."""
 
 
-def message(sender, slot, what, ballot=None, value=b"", report=None, promised=None):
-    return {"sender": sender, "slot": slot, "what": what, "ballot": ballot, "value": value, "report": report, "promised": promised}
-
-
 def ballots_in(said):
     """Every ballot that a message names."""
-    return [it for it in (said["ballot"], said["promised"], said["report"] and said["report"][0]) if it]
+    named = [said["ballot"], said["promised"], said["report"] and said["report"][0], *(ballot for _, ballot, _ in said["reports"])]
+    return [it for it in named if it]
+
+
+def slots_in(said):
+    """Every slot that a message names."""
+    return [said["slot"], *(slot for slot, _, _ in said["reports"])]
 
 
 class Node:
+    """A node, by its records and all that came since it started: messages, uploads that wait, and the calls of its proposer."""
+
+    acceptor, attempts = Acceptor, Attempt
+
     def __init__(self, run, me, records):
         self.run, self.me, self.records = run, me, records
-        self.heard, self.waiting, self.begun = [], [], []
+        self.heard, self.waiting, self.calls = [], [], []
+
+    def is_ranged(self):
+        """Whether it asks for promises of all slots from a first one on. It answers both forms in any case."""
+        return self.run.is_ranged
+
+    def values(self):
+        return learned(self.run.members, self.heard)
 
     def tables(self):
-        return self.run.uploads_of(prefix(learned(self.run.members, self.heard)))
+        return self.run.uploads_of(prefix(self.values()))
 
-    def promised(self, slot):
-        return max((it["ballot"] for it in self.records if it["what"] != "began" and it["slot"] == slot), default=(0, 0))
+    def attempt(self):
+        return self.attempts.after(self.run.members, self.calls)
 
-    def accepted(self, slot):
-        """The acceptance at the highest ballot, the last one if there are several."""
-        found = [it for it in self.records if it["what"] == "accepted" and it["slot"] == slot]
-        best = [it for it in found if it["ballot"] == max(other["ballot"] for other in found)]
-        return (best[-1]["ballot"], best[-1]["value"]) if best else None
+    def leading(self):
+        """The attempt by which it may go on from slot to slot, if it has one."""
+        found = self.attempt()
+        return found if found and found.is_ranged and found.has_majority() else None
+
+    def is_ready(self):
+        """Whether a tick is worth its while: an upload waits, and no attempt is on its way to a majority or to a decision."""
+        leads = self.leading()
+        return bool(self.waiting) and (self.attempt() is None or leads is not None and leads.next() <= len(prefix(self.values())))
 
     def next_ballot(self):
         seen = [ballot[0] for it in self.heard for ballot in ballots_in(it)]
@@ -163,16 +184,19 @@ class Node:
         known = outcome(self.tables(), upload) != "unknown"
         if known or upload.text in [it.text for it in self.waiting]:
             return None, [], lambda: None
-        if len(prefix(learned(self.run.members, self.heard))) == self.run.slot_limit:
+        if len(prefix(self.values())) == self.run.slot_limit:
             raise Refused("SlotsSpent")
         return None, [], lambda: self.waiting.append(upload)
 
     def tick(self, left):
         if left > MOST_LEFT:
             raise Refused("OutOfRange")
-        values = learned(self.run.members, self.heard)
-        first = len(prefix(values))
-        if not self.waiting and not any(it > first for it in values):
+        values = self.values()
+        first, leads = len(prefix(values)), self.leading() if self.is_ranged() else None
+        has_gap = any(it > first for it in values)
+        if leads and leads.next() == first and (self.waiting or has_gap or leads.has_report_from(first)):
+            return self.go_on(leads)
+        if not self.waiting and (leads or not has_gap):
             asks = [message(self.me, first, "Ask")] if first < self.run.slot_limit else []
             return None, asks, lambda: None
         slot, value = first, b""
@@ -181,6 +205,13 @@ class Node:
             value = self.waiting[0].text
         return self.begin(slot, value)
 
+    def go_on(self, leads):
+        """An Accept for the next slot behind the promises that it has. No record is due, since the ballot was begun before."""
+        if leads.next() >= self.run.slot_limit:
+            raise Refused("SlotsSpent")
+        accept = leads.go_on(self.me, self.waiting[0].text if self.waiting else b"")
+        return None, [accept], lambda: self.calls.append({"what": "go on"})
+
     def begin(self, slot, value):
         if slot >= self.run.slot_limit:
             raise Refused("SlotsSpent")
@@ -188,77 +219,57 @@ class Node:
         if ballot[0] > MAX_ROUND:
             raise Refused("RoundsSpent")
         began = {"what": "began", "ballot": ballot}
-        begun = {"slot": slot, "value": value, "ballot": ballot, "from": len(self.heard)}
-        return began, [message(self.me, slot, "Prepare", ballot)], lambda: self.begun.append(begun)
-
-    def attempt(self, heard):
-        """The last attempt, and the promises that answered it, unless a refusal ended it."""
-        if not self.begun:
-            return None, []
-        last = self.begun[-1]
-        since = [it for it in heard[last["from"]:] if (it["slot"], it["ballot"]) == (last["slot"], last["ballot"])]
-        if any(it["what"] == "Nack" for it in since):
-            return None, []
-        return last, [it for it in since if it["what"] == "Promise" and it["sender"] < self.run.members]
+        call = {"what": "begin", "slot": slot, "value": value, "ballot": ballot, "ranged": self.is_ranged()}
+        prepare = message(self.me, slot, "PrepareFrom" if self.is_ranged() else "Prepare", ballot)
+        return began, [prepare], lambda: self.calls.append(call)
 
     def deliver(self, said):
         run = self.run
         nodes = [said["sender"], *(it[1] for it in ballots_in(said))]
-        if any(it >= run.members for it in nodes) or said["slot"] >= run.slot_limit:
+        if any(it >= run.members for it in nodes) or any(it >= run.slot_limit for it in slots_in(said)):
             raise Refused("OutOfRange")
         record, sends = self.reply(said)
 
         def hear():
             self.heard.append(said)
+            self.calls.append(said)
             self.waiting = [it for it in self.waiting if outcome(self.tables(), it) == "unknown"]
 
         return record, sends, hear
 
     def reply(self, said):
-        slot, ballot, what = said["slot"], said["ballot"], said["what"]
-        if what == "Prepare":
-            if ballot <= self.promised(slot):
-                return None, [message(self.me, slot, "Nack", ballot, promised=self.promised(slot))]
-            reply = message(self.me, slot, "Promise", ballot, report=self.accepted(slot))
-            return {"what": "promised", "slot": slot, "ballot": ballot}, [reply]
-        if what == "Accept":
-            if ballot < self.promised(slot):
-                return None, [message(self.me, slot, "Nack", ballot, promised=self.promised(slot))]
-            record = {"what": "accepted", "slot": slot, "ballot": ballot, "value": said["value"]}
-            return record, [message(self.me, slot, "Accepted", ballot, said["value"])]
-        if what == "Promise":
+        what, slot = said["what"], said["slot"]
+        if what in ("Prepare", "PrepareFrom", "Accept"):
+            record, reply = self.acceptor(self.me, self.records).reply(said)
+            return record, [reply]
+        if what in ("Promise", "PromiseFrom"):
             return None, self.proposal(said)
         if what == "Ask":
-            values = prefix(learned(self.run.members, self.heard))
+            values = prefix(self.values())
             return None, [message(self.me, it, "Decided", value=values[it]) for it in range(slot, len(values))][:MOST_ASKED]
         return None, []
 
     def proposal(self, said):
         """The Accept of the open attempt, if this promise completes its majority."""
-        before, after = self.attempt(self.heard), self.attempt([*self.heard, said])
-        promisers = [{it["sender"] for it in promises} for _, promises in (before, after)]
-        if after[0] is None or is_majority(self.run.members, promisers[0]) or not is_majority(self.run.members, promisers[1]):
+        before, after = self.attempt(), self.attempts.after(self.run.members, [*self.calls, said])
+        if after is None or before.has_majority() or not after.has_majority():
             return []
-        counted = {}
-        for it in after[1]:
-            counted.setdefault(it["sender"], it)
-        reports = [it["report"] for it in counted.values() if it["report"]]
-        highest = max((it[0] for it in reports), default=None)
-        value = next((it[1] for it in reports if it[0] == highest), after[0]["value"])
-        return [message(self.me, after[0]["slot"], "Accept", after[0]["ballot"], value)]
+        return [after.accept(self.me, after.slot, after.value)]
 
 
 # ---- a run
 
 
 class Run:
-    """Nodes, all messages that were sent, and the steps so far: each an event and the words of its result."""
+    """Nodes, all messages that were sent, and the steps so far: each an event and the words of its result. `kinds` are the classes of the
+    nodes, if they are not all of one kind."""
 
-    def __init__(self, schedule):
-        self.members, self.slot_limit = schedule["members"], schedule["slot_limit"]
+    def __init__(self, schedule, kinds=None):
+        self.members, self.slot_limit, self.is_ranged = schedule["members"], schedule["slot_limit"], schedule.get("ranged", False)
+        self.kinds = kinds or [Node] * self.members
         self.uploads = [Upload(it["table"], it["id"], it.get("name", "a"), it["values"]) for it in schedule["uploads"]]
         self.by_text = {it.text: it for it in self.uploads}
-        self.nodes = {it: Node(self, it, []) for it in range(self.members)}
+        self.nodes = {it: self.kinds[it](self, it, []) for it in range(self.members)}
         self.kept = {it: [] for it in range(self.members)}
         self.sent, self.steps = [], []
 
@@ -278,7 +289,7 @@ class Run:
         if member >= self.members:
             raise Refused("OutOfRange")
         if what == "restart":
-            self.nodes[member] = Node(self, member, list(self.kept[member]))
+            self.nodes[member] = self.kinds[member](self, member, list(self.kept[member]))
             return ["done"]
         node = self.nodes[member]
         if node is None:
@@ -337,12 +348,8 @@ def lines_of(schedule):
 
 
 def is_lawful(run):
-    """Whether each message may follow the earlier ones of its slot."""
-    for slot in {it["slot"] for it in run.sent}:
-        told = [it for it in run.sent if it["slot"] == slot and it["what"] not in ("Nack", "Ask", "Prepare")]
-        if not all(may_follow(run.members, told[:place], it) for place, it in enumerate(told)):
-            return False
-    return True
+    """Whether each message may follow the earlier ones, by what they say of each slot."""
+    return first_breach(run.members, run.sent) is None
 
 
 def tables_shown(run, member, place):
@@ -408,11 +415,16 @@ def drawn(seed):
     ids = [f"{it:032x}" for it in (1, 2, 3, 1, 4, 5)]
     uploads = [{"table": "u" if it == 4 else "t", "id": id, "values": [[it]], "name": "ab"[it == 5]} for it, id in enumerate(ids)]
     run = Run({"members": members, "slot_limit": draw.choice((2, 4, 8)), "uploads": uploads})
+    return played(draw, run, draw.choice((60, 120, 240)), drawn_event)
+
+
+def played(draw, run, events, draw_event):
+    """The run after so many more events, each drawn with the messages that nodes have not had yet, as pairs of a node and a number."""
     new, count = set(), 0
-    for _ in range(draw.choice((60, 120, 240))):
-        new |= {(node, number) for node in range(members) for number in range(count, len(run.sent))}
+    for _ in range(events):
+        new |= {(node, number) for node in range(run.members) for number in range(count, len(run.sent))}
         count = len(run.sent)
-        event = drawn_event(draw, run, sorted(new))
+        event = draw_event(draw, run, sorted(new))
         new.discard(tuple(event[1:]) if event[0] == "deliver" else None)
         run.play(event)
     return run
