@@ -1,17 +1,18 @@
 """A model of what `flightd` prints for a file: whether a recorded run is lawful, and if not why; the result of each event of a
 schedule; each of a node's records; and the acceptor's answers in a conversation. It is written from Lamport, "Paxos Made Simple",
 section 2, from RFC 8259 and from docs/FORMATS.md, and not from the code. Messages and records are those of paxos_model.py, nodes those
-of runs_model.py. Each function returns the status, the output, and a list of the texts that standard error may have."""
+of runs_model.py. Each function returns the status, the output, and a list of the texts that standard error may have. With `is_ranged` it
+reads promises of all slots from a first one on too (ranged_model.py), which the program skips yet."""
 import itertools
 import json
 import re
 
 from calls_model import Unjudged
-from paxos_model import HEAD, IN_MESSAGE, IN_RECORD, KINDS, MESSAGE, RECORD, Slot, encoding, is_majority, is_safe, kept_line_of, line_of
-from paxos_model import may_follow, parts_of, promisers, was_proposed
+from paxos_model import HEAD, IN_MESSAGE, IN_RECORD, MESSAGE, RECORD, is_majority, is_safe, parts_of, promisers, was_proposed
+from ranged_model import Acceptor, first_breach, message_parts, parts_in, record_parts, said_of, says, shown_message, shown_record, text_of
 from runs_model import Run
 from tables_model import MOST_BATCHES, is_table_name
-from wire_model import BadFrame, Faults, frame, frame_at
+from wire_model import MAX_FRAME_PAYLOAD, BadFrame, Faults, frame, frame_at
 
 MOST_SLOTS, MOST_MEMBERS, MOST_TICK, MOST_LEVELS = 1_000_000, 7, 255, 60
 
@@ -94,44 +95,33 @@ def array_in(value, name):
 # ---- recorded runs
 
 
-def said_of(parts):
-    """A message in the form that histories use."""
-    kind, ballot, second = KINDS[parts["kind"]], (parts["round"], parts["node"]), (parts["second round"], parts["second node"])
-    report = (second, parts["value"]) if kind == "Promise" and second[0] else None
-    value = parts["value"] if kind in ("Accept", "Accepted", "Decided") else b""
-    return {"sender": parts["sender"], "what": kind, "ballot": ballot if kind not in ("Ask", "Decided") else None, "value": value,
-            "report": report, "slot": parts["slot"], "promised": second if kind == "Nack" else None, "parts": parts}
+def message_in(text, is_ranged):
+    """The message that a text encodes, with its parts."""
+    parts = message_parts(text) if is_ranged else parts_of(text, MESSAGE, HEAD, IN_MESSAGE)
+    return said_of(parts) | {"parts": parts}
 
 
-def message_at(place, item):
+def message_at(place, item, is_ranged):
     flaw = f"message {place} of `sent`"
     if not isinstance(item, str):
         raise Flaw(f"{flaw} is not a string")
     if not re.fullmatch("(?:[0-9a-fA-F]{2})*", item):
         raise Flaw(f"{flaw} is not pairs of hexadecimal digits")
     try:
-        return said_of(parts_of(bytes.fromhex(item), MESSAGE, HEAD, IN_MESSAGE))
+        return message_in(bytes.fromhex(item), is_ranged)
     except Faults as faults:
         raise Flaw(*(f"{flaw} is not a valid message: {it}" for it in sorted(faults.names))) from None
 
 
-def run_in(file):
+def run_in(file, is_ranged):
     value = json_of(file)
     members, items = members_in(value), array_in(value, "sent")
-    return members, [message_at(place, it) for place, it in enumerate(items)]
+    return members, [message_at(place, it, is_ranged) for place, it in enumerate(items)]
 
 
-def first_breach(members, sent):
-    """The place of the first message that may not follow the earlier ones of its slot."""
-    for place, it in enumerate(sent):
-        before = [other for other in sent[:place] if other["slot"] == it["slot"]]
-        if it["what"] in ("Promise", "Accept", "Accepted", "Decided") and not may_follow(members, before, it):
-            return place
-    return None
-
-
-def first_place(sent, slot, is_against):
-    return next((place for place, it in enumerate(sent) if it["slot"] == slot and is_against(it)), None)
+def first_place(told, is_against):
+    """The place of the first message of those that say something of the slot: `told` has None for the others."""
+    return next((place for place, it in enumerate(told) if it and is_against(it)), None)
 
 
 def bound_above(said, is_strict):
@@ -142,73 +132,77 @@ def bound_above(said, is_strict):
     return is_against
 
 
-def broken_by_promise(sent, said):
+def broken_by_promise(told, said):
     report, above = said["report"], (said["report"] or ((0, 0),))[0]
-    before = [it for it in sent if it["slot"] == said["slot"]]
-    yield "its sender had promised this ballot or a higher one, or accepted at one", first_place(sent, said["slot"], bound_above(said, False))
-    unreported = first_place(sent, said["slot"], lambda it: it["sender"] == said["sender"] and it["what"] == "Accepted" and it["ballot"] > above)
+    before = [it for it in told if it]
+    yield "its sender had promised this ballot or a higher one, or accepted at one", first_place(told, bound_above(said, False))
+    unreported = first_place(told, lambda it: it["sender"] == said["sender"] and it["what"] == "Accepted" and it["ballot"] > above)
     yield "its sender had accepted a value that it does not report, at a higher ballot than it reports or where it reports none", unreported
     yield "what it reports was not accepted at a ballot below the promised one", report is not None and not above < said["ballot"]
     yield "what it reports was not proposed before", report is not None and not was_proposed(before, *report)
 
 
-def broken_by_accept(members, sent, said):
-    before, ballot = [it for it in sent if it["slot"] == said["slot"]], said["ballot"]
-    second = first_place(sent, said["slot"], lambda it: it["what"] == "Accept" and it["ballot"] == ballot and it["value"] != said["value"])
+def broken_by_accept(members, told, said):
+    before, ballot = [it for it in told if it], said["ballot"]
+    second = first_place(told, lambda it: it["what"] == "Accept" and it["ballot"] == ballot and it["value"] != said["value"])
     yield "another value was proposed at its ballot", second
     is_promised = is_majority(members, promisers(before, ballot, (float("inf"), 0)))
     yield "no majority had promised its ballot", not is_promised
     reports = [it["report"][0] for it in before if it["what"] == "Promise" and it["ballot"] == ballot and it["report"] and it["sender"] < members]
     highest = None
     if is_promised and not is_safe(members, before, ballot, said["value"]):
-        highest = first_place(sent, said["slot"], lambda it: it["what"] == "Promise" and it["ballot"] == ballot and it["sender"] < members
+        highest = first_place(told, lambda it: it["what"] == "Promise" and it["ballot"] == ballot and it["sender"] < members
                               and it["report"] is not None and it["report"][0] == max(reports))
     yield "its value is not that of the highest report among the promises of its ballot", highest
 
 
-def broken_by_accepted(sent, said):
-    before = [it for it in sent if it["slot"] == said["slot"]]
+def broken_by_accepted(told, said):
+    before = [it for it in told if it]
     yield "its value was not proposed at its ballot", not was_proposed(before, said["ballot"], said["value"])
-    yield "its sender had promised a higher ballot, or accepted at one", first_place(sent, said["slot"], bound_above(said, True))
+    yield "its sender had promised a higher ballot, or accepted at one", first_place(told, bound_above(said, True))
 
 
-def broken_rules(members, sent, said):
-    """For each rule for such a message the text about its breach, and whether it is broken, or by which message."""
+def broken_rules(members, told, said):
+    """For each rule for such a message the text about its breach, and whether it is broken, or by which message: `told` is what each
+    message before it says of its slot, or None."""
     if said["what"] == "Promise":
-        return broken_by_promise(sent, said)
+        return broken_by_promise(told, said)
     if said["what"] == "Accept":
-        return broken_by_accept(members, sent, said)
+        return broken_by_accept(members, told, said)
     if said["what"] == "Accepted":
-        return broken_by_accepted(sent, said)
+        return broken_by_accepted(told, said)
     return [("no majority had accepted its value at one ballot", True)]
 
 
 def line_shown(said):
-    """The line of a message, with only the ends of a long value."""
-    line, value = line_of(said["parts"]), said["parts"]["value"]
-    return line.replace(value.hex(), f"{value[:24].hex()}..{value[-8:].hex()} ({len(value)} bytes)") if len(value) > 32 else line
+    """The line of a message, with only the ends of long values."""
+    line = shown_message(said["parts"])
+    for value in (said["value"], *(it[-1] for it in ([said["report"]] if said["report"] else []) + said["reports"])):
+        if len(value) > 32:
+            line = line.replace(value.hex(), f"{value[:24].hex()}..{value[-8:].hex()} ({len(value)} bytes)")
+    return line
 
 
-def explained(members, sent, place):
-    said, earlier = sent[place], sent[:place]
-    lines = [f"message {place} of slot {said['slot']} breaks the rules: {line_shown(said)}"]
-    for rule, broken in broken_rules(members, earlier, said):
+def explained(members, sent, place, slot):
+    told = [says(it, slot) for it in sent]
+    lines = [f"message {place} of slot {slot} breaks the rules: {line_shown(sent[place])}"]
+    for rule, broken in broken_rules(members, told[:place], told[place]):
         if broken is True:
             lines.append(f"- {rule}")
         elif broken is not None and broken is not False:
-            lines.append(f"- {rule}; message {broken}: {line_shown(earlier[broken])}")
+            lines.append(f"- {rule}; message {broken}: {line_shown(sent[broken])}")
     return lines
 
 
-def audit(file, is_explained=False):
+def audit(file, is_explained=False, is_ranged=False):
     try:
-        members, sent = run_in(file)
+        members, sent = run_in(file, is_ranged)
     except Flaw as flaw:
         return 1, "", [f"flightd: BadTrace\nflightd: {it}\n" for it in flaw.lines]
-    place = first_breach(members, sent)
-    if place is None:
+    breach = first_breach(members, sent)
+    if breach is None:
         return 0, "lawful\n", [""]
-    lines = ["unlawful", *(explained(members, sent, place) if is_explained else [])]
+    lines = ["unlawful", *(explained(members, sent, *breach) if is_explained else [])]
     return 1, "".join(f"{it}\n" for it in lines), [""]
 
 
@@ -216,15 +210,15 @@ def audit(file, is_explained=False):
 
 
 def record_line(place, parts):
-    kind, *words = kept_line_of(parts).split(" ")
-    words = [kind, *(["slot"] if kind != "began" else []), *words]
+    kind, *words = shown_record(parts).split(" ")
+    words = [kind.replace("-", " "), *(["slot"] if kind != "began" else []), *words]
     value = parts["value"]
     if kind == "accepted" and value:
         words[-1] = f"upload of {len(value)} bytes {value[:32].hex()}"
     return f"{place} {' '.join(words)}"
 
 
-def records(file):
+def records(file, is_ranged=False):
     lines, at = [], 0
     # a file of at most one byte is a new one
     while len(file) > 1 and file[at] == 1:
@@ -232,7 +226,8 @@ def records(file):
         try:
             if end >= len(file):
                 raise Faults("CutShort")
-            lines.append(record_line(len(lines), parts_of(file[at + 5 : end], RECORD, [], IN_RECORD)))
+            text = file[at + 5 : end]
+            lines.append(record_line(len(lines), record_parts(text) if is_ranged else parts_of(text, RECORD, [], IN_RECORD)))
         except Faults:
             return 1, "", [f"flightd: Damaged\nbyte {at}: this gate is open, but the record after it is incomplete\n"]
         at = end
@@ -253,31 +248,24 @@ def payload_at(text):
     return payload, rest
 
 
-def reply(slot, parts):
-    """The parts of node 0's answer."""
-    ballot = parts["round"], parts["node"]
-    answer = {"sender": 0, "slot": parts["slot"], "round": ballot[0], "node": ballot[1]}
-    is_prepare = KINDS[parts["kind"]] == "Prepare"
-    given = slot.prepare(ballot) if is_prepare else slot.accept(ballot, parts["value"])
-    if given.startswith("refuses"):
-        return answer | {"kind": 3, "second round": slot.promised[0], "second node": slot.promised[1]}
-    if not is_prepare:
-        return answer | {"kind": 5, "value": parts["value"]}
-    if slot.accepted is None:
-        return answer | {"kind": 2}
-    (round_, node), value = slot.accepted
-    return answer | {"kind": 2, "second round": round_, "second node": node, "value": value}
+def answer_to(said, records):
+    """The encoding of node 0's answer, whose record is added to those that it kept."""
+    record, answer = Acceptor(0, records).reply(said)
+    text = text_of(parts_in(answer))
+    if len(text) > MAX_FRAME_PAYLOAD:
+        raise Faults("TooLong")
+    records += [record] if record else []
+    return text
 
 
-def acceptor(text):
-    slots, output, count = {}, b"", 0
+def acceptor(text, is_ranged=False):
+    kept, output, count = [], b"", 0
     try:
         while text:
             payload, text = payload_at(text)
-            parts = parts_of(payload, MESSAGE, HEAD, IN_MESSAGE)
-            if KINDS[parts["kind"]] in ("Prepare", "Accept"):
-                answer = encoding(MESSAGE, reply(slots.setdefault(parts["slot"], Slot()), parts))
-                output += frame(0, answer)
+            said = message_in(payload, is_ranged)
+            if said["what"] in ("Prepare", "PrepareFrom", "Accept"):
+                output += frame(0, answer_to(said, kept))
             count += 1
     except Faults as faults:
         return 1, output, [f"flightd: frame {count}: {it}\n" for it in sorted(faults.names)]
@@ -320,20 +308,23 @@ def event_at(place, value, uploads):
     return value
 
 
-def schedule_in(file):
+def schedule_in(file, is_ranged):
     value = json_of(file)
     members, slots = members_in(value), member(value, "slot_limit")
     if not is_whole(slots, 1, MOST_SLOTS):
         raise Flaw("`slot_limit` is missing or not a whole number from 1 to 1,000,000")
+    ranged = value.get("ranged", False) if is_ranged else False
+    if not isinstance(ranged, bool):
+        raise Flaw("`ranged` is there, and is neither true nor false")
     uploads, events = array_in(value, "uploads"), array_in(value, "events")
     uploads = [upload_at(place, it) for place, it in enumerate(uploads)]
     events = [event_at(place, it, len(uploads)) for place, it in enumerate(events)]
-    return {"members": members, "slot_limit": slots, "uploads": uploads, "events": events}
+    return {"members": members, "slot_limit": slots, "ranged": ranged, "uploads": uploads, "events": events}
 
 
-def replay(file):
+def replay(file, is_ranged=False):
     try:
-        schedule = schedule_in(file)
+        schedule = schedule_in(file, is_ranged)
     except Flaw as flaw:
         return 1, "", [f"flightd: BadSchedule\nflightd: {it}\n" for it in flaw.lines]
     run = Run(schedule)
