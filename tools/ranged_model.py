@@ -7,8 +7,8 @@ the crates do.
 
 A ballot is a pair of its round and its node, and a value is its bytes, none for a no-op. A message is a dictionary, as `message` makes
 it; the `reports` of a PromiseFrom are triples of a slot, a ballot and a value."""
-from paxos_model import FIRST, HEAD, IN_MESSAGE, IN_RECORD, KINDS, MAX_SLOT, MESSAGE, RECORD, encoding, faults_in, is_majority, kept_line_of
-from paxos_model import line_of, may_follow, meant, parts_of, shown_ballot, shown_value
+from paxos_model import FIRST, HEAD, IN_MESSAGE, IN_RECORD, KINDS, MAX_SLOT, MESSAGE, RECORD, SECOND, encoding, faults_in, is_majority
+from paxos_model import kept_line_of, line_of, may_follow, meant, parts_of, shown_ballot, shown_value
 from wire_model import Faults, bytes_field, fields_of, split
 
 PREPARE, PROMISE, PROMISED_FROM = KINDS.index("Prepare"), KINDS.index("Promise"), 4
@@ -93,18 +93,19 @@ def said_of(parts):
 
 
 def with_ballot(ballot, names):
-    return dict(zip(names, ballot)) if ballot else {}
+    """The ballot under these names of its parts: none is a round of 0."""
+    return dict(zip(names, ballot or NO_BALLOT))
 
 
 def parts_in(said):
-    """The parts of a message, of which those that it does not have are left out."""
-    parts = {"kind": KINDS.index(FROM.get(said["what"], said["what"])), "sender": said["sender"], "slot": said["slot"]}
-    parts |= with_ballot(said["ballot"], FIRST)
+    """The parts of a message."""
+    what = FROM.get(said["what"], said["what"])
+    parts = {"kind": KINDS.index(what), "sender": said["sender"], "slot": said["slot"]} | with_ballot(said["ballot"], FIRST)
     if said["what"] in FROM:
         reports = [{"slot": slot, "value": value} | with_ballot(ballot, FIRST) for slot, ballot, value in said["reports"]]
         return parts | {"form": ALL_FROM, "reports": reports}
     second, value = said["report"] or (said["promised"], said["value"])
-    return parts | {"value": value} | with_ballot(second, ("second round", "second node"))
+    return parts | {"value": value} | with_ballot(second, SECOND)
 
 
 def shown_message(parts):
@@ -158,6 +159,15 @@ def first_breach(members, sent):
     """The place of the first message that may not follow those before it, and the lowest slot of which that is so; None if all may."""
     found = [(place_of_breach(members, sent, slot), slot) for slot in slots_told(sent)]
     return min((it for it in found if it[0] is not None), default=None)
+
+
+def may_come(members, sent, said):
+    """Whether a message may follow these, by what they say of each slot."""
+    for slot in slots_told([*sent, said]):
+        before, last = [says(it, slot) for it in sent], says(said, slot)
+        if last and not may_follow(members, [it for it in before if it], last):
+            return False
+    return True
 
 
 # ---- acceptors (Lamport, "Paxos Made Simple", sections 2.2 and 3), and what their records leave (section 2.5)

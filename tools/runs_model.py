@@ -14,6 +14,7 @@ A schedule may have a member `ranged`, which the program skips yet: with `true` 
 on, and a majority's promises then serve for one upload after another (ranged_model.py; tools/ranged.py checks such runs).
 
 A value is its bytes, none for a no-op; a ballot is a pair of its round and its node; a message is a dictionary as in ranged_model.py."""
+import functools
 import json
 import random
 import sys
@@ -40,6 +41,7 @@ DRAWN = 1000
 # ---- uploads, and how they are served
 
 
+@functools.cache
 def schema_text(name):
     """The header of a schema with one nullable column of Int8."""
     column = {"name": name, "nullable": True, "type_type": "Int", "type": {"bitWidth": 8, "is_signed": True}, "children": []}
@@ -415,16 +417,11 @@ def drawn(seed):
     ids = [f"{it:032x}" for it in (1, 2, 3, 1, 4, 5)]
     uploads = [{"table": "u" if it == 4 else "t", "id": id, "values": [[it]], "name": "ab"[it == 5]} for it, id in enumerate(ids)]
     run = Run({"members": members, "slot_limit": draw.choice((2, 4, 8)), "uploads": uploads})
-    return played(draw, run, draw.choice((60, 120, 240)), drawn_event)
-
-
-def played(draw, run, events, draw_event):
-    """The run after so many more events, each drawn with the messages that nodes have not had yet, as pairs of a node and a number."""
     new, count = set(), 0
-    for _ in range(events):
-        new |= {(node, number) for node in range(run.members) for number in range(count, len(run.sent))}
+    for _ in range(draw.choice((60, 120, 240))):
+        new |= {(node, number) for node in range(members) for number in range(count, len(run.sent))}
         count = len(run.sent)
-        event = draw_event(draw, run, sorted(new))
+        event = drawn_event(draw, run, sorted(new))
         new.discard(tuple(event[1:]) if event[0] == "deliver" else None)
         run.play(event)
     return run
