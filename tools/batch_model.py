@@ -3,14 +3,18 @@
 `lay_out` lays cells out as nodes, buffers and a body, in one of many ways; `meaning` returns the cells of a head and a
 body, or the name of their first fault; `canonical` returns the one head and body that are written for cells.
 
-A cell is None (a null), a bool, bytes, a list of cells (List, FixedSizeList) or a tuple of cells (Struct). A column is
-a list of cells, and a batch a number of rows and a column for each type."""
+A cell is None (a null), a bool, bytes, a list of cells (List, LargeList, FixedSizeList) or a tuple of cells (Struct). A
+column is a list of cells, and a batch a number of rows and a column for each type. Which types a service carries is not
+asked here: see carried_types.py."""
 from itertools import accumulate, chain
 import random
 from typing import NamedTuple
 
 MOST_ROWS = 1 << 20  # of a batch
 MOST_ITEMS = 1 << 24  # of a node
+
+# The types whose items are found by offsets: of bytes, those of them that are texts, and of the items of a child.
+OF_BYTES, OF_TEXTS, OF_ITEMS = ("Binary", "Utf8", "LargeBinary", "LargeUtf8"), ("Utf8", "LargeUtf8"), ("List", "LargeList")
 
 
 class Type(NamedTuple):
@@ -38,7 +42,7 @@ def type_of(word):
         else:
             parts[-1] += letter
     parts = [part for part in parts if part]
-    own = {"List": 0, "Struct": 0, "FixedSizeList": 1}.get(name, len(parts))
+    own = {"List": 0, "LargeList": 0, "Struct": 0, "FixedSizeList": 1}.get(name, len(parts))
     return Type(name, tuple(parts[:own]), tuple(map(type_of, parts[own:])))
 
 
@@ -58,6 +62,12 @@ def width(type):
     if type.name in bits:
         return int(type.parameters[bits[type.name]]) // 8
     return int(type.parameters[0]) if type.name == "FixedSizeBinary" else None
+
+
+def offset_size(type):
+    """How many bytes an offset has ("Variable-size Binary Layout", "Variable-size List Layout"; Schema.fbs, LargeBinary,
+    LargeUtf8 and LargeList)."""
+    return 8 if type.name.startswith("Large") else 4
 
 
 # Part 1: cells laid out in many ways.
@@ -102,9 +112,9 @@ class Layout:
             return is_junk and self.draw.random() < 0.5
         if width(type) is not None:
             return self.junk(width(type))
-        if type.name in ("Binary", "Utf8"):
+        if type.name in OF_BYTES:
             return self.unused(b"", is_junk)
-        if type.name == "List":
+        if type.name in OF_ITEMS:
             return self.unused([], is_junk)
         if type.name == "Struct":
             return (FREE,) * len(type.children)
@@ -123,12 +133,12 @@ class Layout:
         number += self.draw.randrange(2**spare) << len(flags)
         return number.to_bytes((len(flags) + 7) // 8, "little")
 
-    def spans(self, cells, empty):
+    def spans(self, type, cells, empty):
         """Offsets, and the bytes or items that they are offsets into."""
         pieces = [self.unused(empty, "first offset" in self.ways)]
         pieces += [self.unused(empty, "null spans" in self.ways) if cell is None else cell for cell in cells]
         offsets = [] if not cells and "no offsets" in self.ways else list(accumulate(map(len, pieces)))
-        self.contents.append(b"".join(offset.to_bytes(4, "little") for offset in offsets))
+        self.contents.append(b"".join(offset.to_bytes(offset_size(type), "little") for offset in offsets))
         pieces.append(self.unused(empty, "children" in self.ways))
         return b"".join(pieces) if empty == b"" else list(chain(*pieces))
 
@@ -146,10 +156,10 @@ class Layout:
             self.contents.append(self.bits([anything if cell is None else cell for cell in cells]))
         elif width(type) is not None:
             self.contents.append(b"".join(self.junk(width(type)) if cell is None else cell for cell in cells))
-        elif type.name in ("Binary", "Utf8"):
-            self.contents.append(self.spans(cells, b""))
-        elif type.name == "List":
-            self.column(type.children[0], self.spans(cells, []))
+        elif type.name in OF_BYTES:
+            self.contents.append(self.spans(type, cells, b""))
+        elif type.name in OF_ITEMS:
+            self.column(type.children[0], self.spans(type, cells, []))
         else:
             self.equal_parts(type, cells)
 
@@ -196,7 +206,7 @@ def lay_out(types, rows, columns, ways=(), seed=0):
 # Part 2: what a head and a body mean.
 
 KINDS = {"Null": (), "Bool": ("validity", "bits"), "Struct": ("validity",), "FixedSizeList": ("validity",),
-         "List": ("validity", "offsets"), **dict.fromkeys(("Binary", "Utf8"), ("validity", "offsets", "data"))}
+         **dict.fromkeys(OF_ITEMS, ("validity", "offsets")), **dict.fromkeys(OF_BYTES, ("validity", "offsets", "data"))}
 
 
 def kinds(type):
@@ -232,14 +242,15 @@ class Column:
         return self.type.name != "Null" and (self.buffers["validity"][1] == 0 or self.bit("validity", item))
 
     def offset(self, item):
-        return int.from_bytes(self.content("offsets")[4 * item:4 * item + 4], "little", signed=True)
+        size = offset_size(self.type)
+        return int.from_bytes(self.content("offsets")[size * item:size * item + size], "little", signed=True)
 
     def text(self, item):
         return self.content("data")[self.offset(item):self.offset(item + 1)]
 
     def reach(self, item):
         """The items of each child that belong to a valid item."""
-        if self.type.name == "List":
+        if self.type.name in OF_ITEMS:
             return range(self.offset(item), self.offset(item + 1))
         return range(item * self.size, (item + 1) * self.size)
 
@@ -248,7 +259,7 @@ class Column:
             return None
         if self.type.name == "Bool":
             return self.bit("bits", item)
-        if self.type.name in ("Binary", "Utf8"):
+        if self.type.name in OF_BYTES:
             return self.text(item)
         if self.type.name == "Struct":
             return tuple(child.cell(item) for child in self.children)
@@ -260,7 +271,7 @@ class Column:
         """Whether the buffer is inside the body, and long enough for the items or, if it may be, empty."""
         offset, length = self.buffers[kind]
         in_bits = (self.length + 7) // 8
-        least = {"validity": in_bits, "bits": in_bits, "offsets": 4 * (self.length + 1),
+        least = {"validity": in_bits, "bits": in_bits, "offsets": offset_size(self.type) * (self.length + 1),
                  "data": self.length * (width(self.type) or 0)}[kind]
         may_be_empty = {"validity": self.null_count == 0, "offsets": self.length == 0}.get(kind, False)
         is_inside = 0 <= offset and 0 <= length and offset + length <= self.end
@@ -286,9 +297,9 @@ class Column:
         if self.length < asked:
             yield "ChildShort"
         reached = [item for item in reached if self.is_valid(item)]
-        if self.type.name == "Utf8" and not all(is_utf8(self.text(item)) for item in reached):
+        if self.type.name in OF_TEXTS and not all(is_utf8(self.text(item)) for item in reached):
             yield "NotUtf8"
-        asked_below = 0 if self.type.name == "List" else self.length * self.size
+        asked_below = 0 if self.type.name in OF_ITEMS else self.length * self.size
         for child in self.children:
             yield from child.faults(asked_below, list(chain(*map(self.reach, reached))))
 
@@ -339,7 +350,7 @@ def blank(type):
         return tuple(map(blank, type.children))
     if type.name == "FixedSizeList":
         return [blank(type.children[0])] * int(type.parameters[0])
-    return [] if type.name == "List" else bytes(width(type) or 0)
+    return [] if type.name in OF_ITEMS else bytes(width(type) or 0)
 
 
 def packed(flags):
@@ -363,10 +374,10 @@ def canonical_parts(type, cells):
         contents.append(b"".join(bytes(width(type)) if cell is None else cell for cell in cells))
     else:
         ends = [sum(len(cell or b"") for cell in cells[:count]) for count in range(len(cells) + 1)]
-        contents.append(b"".join(end.to_bytes(4, "little") for end in ends))
+        contents.append(b"".join(end.to_bytes(offset_size(type), "little") for end in ends))
         there = [cell for cell in cells if cell is not None]
-        inner = [sum(there, [])] if type.name == "List" else []
-        contents += [] if type.name == "List" else [b"".join(there)]
+        inner = [sum(there, [])] if type.name in OF_ITEMS else []
+        contents += [] if type.name in OF_ITEMS else [b"".join(there)]
     for child, items in zip(type.children, inner):
         more_nodes, more_contents = canonical_parts(child, list(items))
         nodes, contents = nodes + more_nodes, contents + more_contents
