@@ -2,7 +2,8 @@
 is written from gRPC, "gRPC over HTTP2", from Arrow Flight ("Flight.proto", "Arrow Flight RPC") and from docs/FORMATS.md, and not
 from the code. Uploads, tables and tickets are those of tables_model.py, messages those of wire_model.py.
 
-Headers are those of headers_model.py. The model does not judge which fault is reported of a header or message with several."""
+Headers are those of headers_model.py. The model does not judge which fault is reported of a header or message with several. A service
+with `large` takes uploads with LargeBinary, LargeUtf8 and LargeList, and longer ones."""
 import headers_model
 from batch_model import Head, meaning
 from tables_model import MOST_BATCHES, Upload, answer, effective, is_table_name, latest, outcome, table_names, ticket_of, ticket_text, type_in
@@ -110,10 +111,10 @@ def one_message(method, text):
 # ---- uploads
 
 
-def header_of(text, left):
+def header_of(text, left, large):
     """The schema or the head that the bytes encode: a pair of its kind and of itself."""
     try:
-        said = headers_model.header_of(text)
+        said = headers_model.header_of(text, large)
     except Faults as found:
         # a fault that has the number of a type is reported without it
         names = {it.partition("(")[0] for it in found.names}
@@ -131,7 +132,7 @@ def is_id(text):
     return len(text) == 32 and all(it in b"0123456789abcdef" for it in text)
 
 
-def opening(text, left):
+def opening(text, left, large):
     """The table, the name and the schema of the first message."""
     descriptor, header, _, _ = meant(text, DATA_MESSAGE, left)
     if descriptor is None:
@@ -139,20 +140,20 @@ def opening(text, left):
     path = path_in(descriptor, left)
     if len(path) != 2 or not is_table_name(path[0]) or not is_id(path[1]):
         raise Refusal("BadDescriptor", left)
-    kind, schema = header_of(header, left) if header else ("batch", None)
+    kind, schema = header_of(header, left, large) if header else ("batch", None)
     if kind == "batch":
         raise Refusal("NoSchema", left)
     return path[0], bytes.fromhex(path[1].decode()), schema
 
 
-def addition(schema, batches, text, left):
+def addition(schema, batches, text, left, large):
     """What a further message adds to the batches."""
     _, header, _, body = meant(text, DATA_MESSAGE, left)
     if not header and not body:
         return []
     if not header:
         raise Refusal("OutOfBounds", left)
-    kind, head = header_of(header, left)
+    kind, head = header_of(header, left, large)
     if kind == "schema":
         raise Refusal("BadHeader", left)
     columns = meaning([type_in(it) for it in schema["fields"]], head, body)
@@ -163,27 +164,27 @@ def addition(schema, batches, text, left):
     return [(head.length, columns)]
 
 
-def upload_asked(text):
+def upload_asked(text, large):
     """The upload of the messages, and the text after their end."""
     is_end, message, text = next_frame(text)
     if is_end:
         raise Refusal("NoSchema", text)
-    table, name, schema = opening(message, text)
+    table, name, schema = opening(message, text, large)
     batches = []
     for count in range(2, MOST_FRAMES + 2):
         is_end, message, text = next_frame(text)
         if is_end:
             upload = Upload(table, name, schema, batches)
-            if not upload.is_taken():
+            if not upload.is_taken(large):
                 raise Refusal("TooLarge", text)
             return upload, text
         if count == MOST_FRAMES:
             raise Refusal("MessageCount", text)
-        batches += addition(schema, batches, message, text)
+        batches += addition(schema, batches, message, text, large)
     raise AssertionError
 
 
-def call_asked(text):
+def call_asked(text, large):
     """The method, what it asks for, and the text after the call."""
     is_end, path, text = next_frame(text)
     if is_end or not path.startswith(SERVICE):
@@ -191,7 +192,7 @@ def call_asked(text):
     method = path.removeprefix(SERVICE)
     if method not in METHODS:
         raise Refusal("NoCall", text)
-    return method, *(upload_asked(text) if method == b"DoPut" else one_message(method, text))
+    return method, *(upload_asked(text, large) if method == b"DoPut" else one_message(method, text))
 
 
 # ---- a service, and its answers
@@ -204,8 +205,8 @@ def encapsulated(text):
 class Service:
     """The uploads that were taken, in order; how many it takes; its locations; and the ids of the uploads that were handed over."""
 
-    def __init__(self, slots, locations):
-        self.slots, self.locations, self.uploads, self.handed = slots, locations, [], []
+    def __init__(self, slots, locations, large=False):
+        self.slots, self.locations, self.uploads, self.handed, self.large = slots, locations, [], [], large
 
     def info(self, table, left):
         known = latest(self.uploads, table)
@@ -252,7 +253,7 @@ class Service:
     def serve(self, text):
         """The messages of the answer, its status and text, and what is left."""
         try:
-            method, asked, left = call_asked(text)
+            method, asked, left = call_asked(text, self.large)
             return self.messages(method, asked, left), 0, "", left
         except Refusal as it:
             return [], STATUS_OF[it.name], it.name, it.left

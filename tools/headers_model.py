@@ -2,22 +2,15 @@
 "FlatBuffer Internals", from Message.fbs and Schema.fbs of Apache Arrow and from docs/FORMATS.md, and not from the code. A header has the
 form of the JSON files of crates/flatbuf_meta/vectors, whose scripts print its lines and write its canonical text.
 
-Fields and entries beyond the most that a schema may have are not read."""
+Fields and entries beyond the most that a schema may have are not read. The types LargeBinary, LargeUtf8 and LargeList are refused,
+unless `large` is true."""
 import struct
-import sys
-from pathlib import Path
 
-TOP = Path(__file__).resolve().parent.parent
-sys.dont_write_bytecode = True
-sys.path.append(str(TOP / "crates" / "flatbuf_meta" / "vectors"))
-
-import canonical
-import make
+from carried_types import canonical, children_wanted, make, names_of_types
 from wire_model import Faults
 
 MOST_LEVELS, MOST_FIELDS, MOST_ENTRIES, MOST_TEXT, MOST_NODES, MOST_BUFFERS = 16, 512, 4096, 1 << 20, 512, 1536
 SCHEMA, DICTIONARY, BATCH, VERSION_5 = 1, 2, 3, 4
-NAMES = {number: name for name, number in canonical.NUMBERS.items()}
 UNITS = ("SECOND", "MILLISECOND", "MICROSECOND", "NANOSECOND")
 VALUES = {"FloatingPoint": ("HALF", "SINGLE", "DOUBLE"), "Date": ("DAY", "MILLISECOND")}
 SIZES = {"unit": 2, "is_signed": 1}
@@ -26,8 +19,9 @@ SIZES = {"unit": 2, "is_signed": 1}
 class Reader:
     """A text, every fault that was found in it, and how many fields, entries and bytes of texts have been read."""
 
-    def __init__(self, text):
+    def __init__(self, text, large=False):
         self.text, self.found, self.seen = text, set(), [0, 0, 0]
+        self.names = names_of_types(large)
 
     def number(self, place, size, is_signed=False):
         if not 0 <= place <= len(self.text) - size:
@@ -125,10 +119,10 @@ class Reader:
         number = self.tried(self.number_in, table, 2, 1)
         if number is None:
             return None, {}
-        if number not in NAMES:
+        if number not in self.names:
             self.found.add(f"Unsupported({number})")
             return None, {}
-        name = NAMES[number]
+        name = self.names[number]
         if not make.TYPES[name]:
             return name, {}
         before = set(self.found)
@@ -158,8 +152,7 @@ class Reader:
         if self.tried(self.slot, table, 4) is not None:
             self.found.add("Dictionary")
         _, count = self.tried(self.vector_in, table, 5, 4) or (0, None)
-        wanted = {"List": 1, "FixedSizeList": 1, "Struct_": count}.get(said["type_type"], 0)
-        if said["type_type"] and count is not None and count != wanted:
+        if said["type_type"] and count is not None and count != children_wanted(said["type_type"], count):
             self.found.add("BadHeader")
         said["custom_metadata"] = self.metadata(table, 6)
         said["children"] = self.fields(table, 5, level + 1)
@@ -209,17 +202,29 @@ class Reader:
         return said | {"header": self.batch(table), "bodyLength": self.tried(self.number_in, message, 3, 8, 0, True)}
 
 
-def header_of(text):
+def header_of(text, large=False):
     """The header that the bytes encode. Raises the faults in them."""
-    reader = Reader(text)
+    reader = Reader(text, large)
     said = reader.tried(reader.message)
     if reader.found:
         raise Faults(*reader.found)
     return said
 
 
+def columns_shown(columns, indent):
+    """The lines for fields: for each its own, those for its metadata, and those for its children."""
+    lines = []
+    for it in columns:
+        nullable = ", nullable" if it["nullable"] else ""
+        lines.append(f"{indent}{make.quoted(it['name'])}: {make.kind(it)}{nullable}")
+        lines += make.entries(it, indent + "  ") + columns_shown(it["children"], indent + "  ")
+    return lines
+
+
 def shown(said):
     """The lines for a header in a story."""
+    if said["header_type"] == "Schema":
+        return ["schema", *make.entries(said["header"], "  "), *columns_shown(said["header"]["fields"], "  ")]
     return [line[2:] for line in make.header(said)]
 
 

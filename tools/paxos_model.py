@@ -17,7 +17,9 @@ from toolbox import show_help
 from wire_model import Faults, bytes_field, file_of, number_field, put, rows, split, varint
 
 DATA = Path(__file__).resolve().parent.parent / "crates" / "paxos_stories" / "data"
-MAX_NODE, MAX_SLOT, MAX_ROUND, MAX_VALUE = 6, 999_999, 4_000_000_000, 16 * 1024 * 1024
+MAX_NODE, MAX_SLOT, MAX_ROUND = 6, 999_999, 4_000_000_000
+# The most bytes of a value, today and where the types of columns whose names begin with Large are carried.
+MAX_VALUE, MAX_VALUE_WITH_LARGE = 16 * 1024 * 1024, 64 * 1024 * 1024
 KINDS = ["", "Prepare", "Promise", "Nack", "Accept", "Accepted", "Ask", "Decided"]
 
 
@@ -34,8 +36,7 @@ def shown_value(value):
 MESSAGE = {1: "kind", 2: "sender", 3: "slot", 5: "round", 6: "node", 7: "second round", 8: "second node", 9: "value"}
 RECORD = {1: "kind", 2: "slot", 3: "round", 4: "node", 5: "value"}
 LIMITS = {"sender": (0, MAX_NODE), "slot": (0, MAX_SLOT), "round": (1, MAX_ROUND), "node": (0, MAX_NODE)}
-# Of a value, how many bytes it may have.
-LIMITS |= {"second round": (1, MAX_ROUND), "second node": (0, MAX_NODE), "value": (0, MAX_VALUE)}
+LIMITS |= {"second round": (1, MAX_ROUND), "second node": (0, MAX_NODE)}
 HEAD, FIRST, SECOND = ["sender", "slot"], ["round", "node"], ["second round", "second node"]
 IN_MESSAGE = {1: FIRST, 2: FIRST, 3: FIRST + SECOND, 4: FIRST + ["value"], 5: FIRST + ["value"], 6: [], 7: ["value"]}
 IN_RECORD = {1: FIRST, 2: ["slot", *FIRST], 3: ["slot", *FIRST, "value"]}
@@ -61,19 +62,19 @@ def meant(numbers, fields):
     return parts
 
 
-def faults_in(parts, names):
+def faults_in(parts, names, max_value=MAX_VALUE):
     """What is wrong with these parts."""
-    faults = set()
+    faults, limits = set(), LIMITS | {"value": (0, max_value)}
     for name in names:
         part = len(parts[name]) if isinstance(parts[name], bytes) else parts[name]
         if part is None:
             faults.add("BadWireType")
-        elif not LIMITS[name][0] <= part <= LIMITS[name][1]:
+        elif not limits[name][0] <= part <= limits[name][1]:
             faults.add("OutOfRange")
     return faults
 
 
-def parts_of(text, numbers, head, kinds):
+def parts_of(text, numbers, head, kinds, max_value=MAX_VALUE):
     """The parts of the message or record that a text encodes."""
     fields, faults = split(text)
     if faults:
@@ -85,9 +86,9 @@ def parts_of(text, numbers, head, kinds):
     elif parts["kind"] not in kinds:
         faults.add("BadKind")
     else:
-        faults |= faults_in(parts, kinds[parts["kind"]])
+        faults |= faults_in(parts, kinds[parts["kind"]], max_value)
         if kinds is IN_MESSAGE and parts["kind"] == 2 and parts["second round"] != 0:
-            faults |= faults_in(parts, [*SECOND, "value"])
+            faults |= faults_in(parts, [*SECOND, "value"], max_value)
     if faults:
         raise Faults(*faults)
     return parts

@@ -4,22 +4,18 @@ docs/FORMATS.md, and not from the code. It keeps whole lists, and computes from 
 versions there are and what is answered.
 
 Bytes are an upload if writing what is read in them gives the same bytes; so a reader that accepts too much does no harm. The model
-does not check the limits of schemas, and expects columns of the supported types."""
+does not check the limits of schemas, and expects columns of the supported types. With `large` these are also LargeBinary, LargeUtf8
+and LargeList, and every upload may be longer."""
 import re
-import sys
-from pathlib import Path
 
-TOP = Path(__file__).resolve().parent.parent
-sys.dont_write_bytecode = True
-sys.path.append(str(TOP / "crates" / "flatbuf_meta" / "vectors"))
-
-import canonical
 from batch_model import Head, Type, meaning
 from batch_model import canonical as written_batch
-from make import TYPES, Refused, kind
+from carried_types import canonical, make, names_of_types
 from wire_model import Faults, bytes_field, fields_of, frame, number_field
 
-MOST_BATCHES, MOST_BYTES, MOST_SERVED = 1024, 1 << 24, 1 << 22
+MOST_BATCHES, MOST_SERVED = 1024, 1 << 22
+# The most bytes of an upload, today and where the types whose names begin with Large are carried.
+MOST_BYTES, MOST_BYTES_WITH_LARGE = 1 << 24, 1 << 26
 
 
 # ---- headers, read by their offsets
@@ -81,17 +77,17 @@ def parameter(text, table, name, place, word, default):
     return bool(number_in(text, found, 1)) if word == "is_signed" else number_in(text, found, 4, True)
 
 
-def column_at(text, table):
+def column_at(text, table, large):
     """A field of a schema, in the form of canonical.py."""
-    name = {number: name for name, number in canonical.NUMBERS.items()}[number_in(text, slot(text, table, 2), 1)]
+    name = names_of_types(large)[number_in(text, slot(text, table, 2), 1)]
     type_table = follow(text, slot(text, table, 3))
-    words = enumerate(TYPES[name].items())
+    words = enumerate(make.TYPES[name].items())
     said = {word: parameter(text, type_table, name, place, word, default) for place, (word, default) in words}
-    kind({"type_type": name, "type": said})
+    make.kind({"type_type": name, "type": said})
     nullable = slot(text, table, 1)
     return {
         "name": string(text, table, 0) or "", "nullable": nullable is not None and number_in(text, nullable, 1) != 0, "type_type": name,
-        "type": said, "children": [column_at(text, it) for it in inside(text, table, 5)],
+        "type": said, "children": [column_at(text, it, large) for it in inside(text, table, 5)],
         "custom_metadata": metadata(text, table, 6),
     }
 
@@ -100,9 +96,9 @@ def header_in(text):
     return follow(text, slot(text, follow(text, 0), 2))
 
 
-def schema_at(text):
+def schema_at(text, large=False):
     table = header_in(text)
-    columns = [column_at(text, it) for it in inside(text, table, 1)]
+    columns = [column_at(text, it, large) for it in inside(text, table, 1)]
     return {"fields": columns, "custom_metadata": metadata(text, table, 2)}
 
 
@@ -165,11 +161,11 @@ class Upload:
         served = [bytes_field(2, header) + name + (bytes_field(1000, body) if body else b"") for header, body in self.parts]
         return served or [name]
 
-    def is_taken(self):
+    def is_taken(self, large=False):
         served = [bytes_field(2, self.schema_text), *self.messages()]
         return (
             is_table_name(self.table) and len(self.id) == 16 and len(self.batches) <= MOST_BATCHES
-            and len(self.text) <= MOST_BYTES and all(len(it) <= MOST_SERVED for it in served)
+            and len(self.text) <= (MOST_BYTES_WITH_LARGE if large else MOST_BYTES) and all(len(it) <= MOST_SERVED for it in served)
         )
 
 
@@ -186,16 +182,16 @@ def batch_at(schema, text):
     return head.length, columns
 
 
-def upload_of(text):
+def upload_of(text, large=False):
     """The upload that the bytes encode, None if they are no upload."""
     try:
         fields = [(number, held) for number, kind, held in fields_of(text) if kind == 2]
         table, id, header = (dict(fields)[number] for number in (1, 2, 3))
-        schema = schema_at(header)
+        schema = schema_at(header, large)
         upload = Upload(table, id, schema, [batch_at(schema, held) for number, held in fields if number == 4])
-    except (NoUpload, Faults, Refused, LookupError, TypeError, ValueError, OverflowError):
+    except (NoUpload, Faults, make.Refused, LookupError, TypeError, ValueError, OverflowError):
         return None
-    return upload if upload.is_taken() and upload.text == text else None
+    return upload if upload.is_taken(large) and upload.text == text else None
 
 
 # ---- tickets
