@@ -12,7 +12,7 @@ import sys
 import textwrap
 from pathlib import Path
 
-from batch_model import WAYS, Head, canonical, kinds, lay_out, meaning, type_of, whole_tree, width
+from batch_model import OF_ITEMS, OF_TEXTS, WAYS, Head, canonical, kinds, lay_out, meaning, type_of, whole_tree, width
 from toolbox import show_help
 
 DATA = Path(__file__).resolve().parent.parent / "crates" / "batch_stories" / "data"
@@ -156,10 +156,10 @@ def drawn(type, draw, nulls, most=3):
         return None
     if type.name == "Bool":
         return draw.random() < 0.5
-    if type.name == "Utf8":
+    if type.name in OF_TEXTS:
         return draw.choice(TEXTS)
-    if type.name in ("List", "FixedSizeList"):
-        count = (draw.randrange(most + 1) if most else 1) if type.name == "List" else int(type.parameters[0])
+    if type.name in (*OF_ITEMS, "FixedSizeList"):
+        count = (draw.randrange(most + 1) if most else 1) if type.name in OF_ITEMS else int(type.parameters[0])
         return [drawn(type.children[0], draw, nulls, most) for _ in range(count)]
     if type.name == "Struct":
         return tuple(drawn(child, draw, nulls, most) for child in type.children)

@@ -38,8 +38,10 @@ ELSEWHERE = "The notation is that of rows.txt. Made by tools/calls.py, and not b
 
 
 class Story:
-    def __init__(self):
-        self.named, self.service = {"empty": b""}, Service(0, [])
+    """The bytes by name, and a service. With `large`, services carry LargeBinary, LargeUtf8 and LargeList."""
+
+    def __init__(self, large=False):
+        self.named, self.large, self.service = {"empty": b""}, large, Service(0, [])
 
     def bytes(self, words):
         name, _, digits = words.partition(" ")
@@ -50,7 +52,7 @@ class Story:
 
     def new(self, words):
         slots, *locations = words.split()
-        self.service = Service(int(slots), locations)
+        self.service = Service(int(slots), locations, self.large)
         return []
 
     def part(self, word):

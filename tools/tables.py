@@ -30,26 +30,31 @@ def md5(text):
 
 
 class Story:
-    def __init__(self):
-        self.named, self.values = {}, []
+    """The bytes by name, and the values that were taken. With `large`, LargeBinary, LargeUtf8 and LargeList are carried."""
+
+    def __init__(self, large=False):
+        self.named, self.values, self.large = {}, [], large
+
+    def known(self, text):
+        return known(text, self.large)
 
     def uploads(self):
-        return [it for it in map(known, self.values) if it]
+        return [it for it in map(self.known, self.values) if it]
 
     def upload(self, words):
         name, _, digits = words.partition(" ")
         front, _, back = digits.partition("|")
         count, _, more = back.strip().partition(" ")
         self.named[name] = bytes_of(front) + int(count or 0) * bytes_of(more)
-        return told_of(self.named[name])
+        return told_of(self.known(self.named[name]))
 
     def cut(self, words):
         name, count = words.split()
-        return told_of(self.named[name][: int(count)])
+        return told_of(self.known(self.named[name][: int(count)]))
 
     def change(self, words):
         name, place, byte = words.split()
-        return told_of(changed(self.named[name], int(place), int(byte)))
+        return told_of(self.known(changed(self.named[name], int(place), int(byte))))
 
     def ticket(self, words):
         version, _, table = words.partition(" ")
@@ -70,7 +75,7 @@ class Story:
 
     def outcome(self, words):
         uploads = self.uploads()
-        return [" ".join(outcome(uploads, known(self.named[it])) for it in words.split())]
+        return [" ".join(outcome(uploads, self.known(self.named[it])) for it in words.split())]
 
     def tables(self, _):
         return [" ".join(it.decode() for it in table_names(self.uploads())) or "none"]
@@ -102,20 +107,19 @@ class Story:
 KNOWN = {}
 
 
-def known(text):
+def known(text, large=False):
     """The upload that the bytes encode, which is decoded once."""
-    if text not in KNOWN:
-        KNOWN[text] = upload_of(text)
-    return KNOWN[text]
+    if (text, large) not in KNOWN:
+        KNOWN[text, large] = upload_of(text, large)
+    return KNOWN[text, large]
 
 
 def changed(text, place, byte):
     return text[:place] + bytes([byte]) + text[place + 1 :]
 
 
-def told_of(text):
-    """The line about the upload that the bytes encode."""
-    it = known(text)
+def told_of(it):
+    """The line about an upload, or that there is none."""
     if it is None:
         return ["NotAnUpload"]
     columns = "".join(" " + column["name"] for column in it.schema["fields"])
