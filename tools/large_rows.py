@@ -4,6 +4,7 @@ import batch_model
 import calls
 import headers_model
 import paxos_model
+import ranged_model
 import tables
 from batches import batch_of, batch_told, bytes_of, schema_told
 from wire_model import Faults
@@ -56,17 +57,26 @@ class Values:
         word, _, rest = command.partition(" ")
         front, _, back = rest.partition("|")
         count, _, more = back.strip().partition(" ")
-        text = bytes_of(front) + int(count) * bytes_of(more)
         most = paxos_model.MAX_VALUE if word.endswith("-today") else paxos_model.MAX_VALUE_WITH_LARGE
-        form = (paxos_model.RECORD, [], paxos_model.IN_RECORD)
-        if word.startswith("decode-message"):
-            form = (paxos_model.MESSAGE, paxos_model.HEAD, paxos_model.IN_MESSAGE)
-        return told_or_fault(lambda: [self.value_told(paxos_model.parts_of(text, *form, most), form[2])])
+        value_of = self.in_record if word.startswith("decode-record") else self.in_message
+        return told_or_fault(lambda: self.value_told(value_of(bytes_of(front) + int(count) * bytes_of(more), most)))
 
     @staticmethod
-    def value_told(parts, kinds):
-        reports = kinds is paxos_model.IN_MESSAGE and parts["kind"] == 2 and parts["second round"] > 0
-        return f"a value of {len(parts['value'])} bytes" if "value" in kinds[parts["kind"]] or reports else "no value"
+    def value_told(value):
+        return ["no value"] if value is None else [f"a value of {len(value)} bytes"]
+
+    @staticmethod
+    def in_record(text, most):
+        parts = ranged_model.record_parts(text, most)
+        return parts["value"] if "value" in paxos_model.IN_RECORD[parts["kind"]] else None
+
+    @staticmethod
+    def in_message(text, most):
+        """The value of a message, or that of its report, of which there is at most one."""
+        said = ranged_model.said_of(ranged_model.message_parts(text, most))
+        reported = [it[-1] for it in ([said["report"]] if said["report"] else []) + said["reports"]]
+        has_value = said["what"] in ("Accept", "Accepted", "Decided")
+        return said["value"] if has_value else reported[0] if reported else None
 
 
 class Calls(calls.Story):

@@ -7,8 +7,8 @@ the crates do.
 
 A ballot is a pair of its round and its node, and a value is its bytes, none for a no-op. A message is a dictionary, as `message` makes
 it; the `reports` of a PromiseFrom are triples of a slot, a ballot and a value."""
-from paxos_model import FIRST, HEAD, IN_MESSAGE, IN_RECORD, KINDS, MAX_SLOT, MESSAGE, RECORD, SECOND, encoding, faults_in, is_majority
-from paxos_model import kept_line_of, line_of, may_follow, meant, parts_of, shown_ballot, shown_value
+from paxos_model import FIRST, HEAD, IN_MESSAGE, IN_RECORD, KINDS, MAX_SLOT, MAX_VALUE, MESSAGE, RECORD, SECOND, encoding, faults_in
+from paxos_model import is_majority, kept_line_of, line_of, may_follow, meant, parts_of, shown_ballot, shown_value
 from wire_model import Faults, bytes_field, fields_of, split
 
 PREPARE, PROMISE, PROMISED_FROM = KINDS.index("Prepare"), KINDS.index("Promise"), 4
@@ -31,7 +31,7 @@ def message(sender, slot, what, ballot=None, value=b"", report=None, promised=No
 # ---- messages and records as bytes and as lines
 
 
-def reports_in(fields, first, faults):
+def reports_in(fields, first, faults, max_value):
     """The reports in these fields, which are about slots from the first one on, each slot above that of the report before it. What is
     wrong with them is added to `faults`."""
     reports, least = [], first or 0
@@ -40,7 +40,7 @@ def reports_in(fields, first, faults):
             continue
         inner, wrong = split(held) if wire_type == 2 else ([], {"BadWireType"})
         parts = meant(REPORT, inner)
-        wrong = wrong or faults_in(parts, REPORT.values())
+        wrong = wrong or faults_in(parts, REPORT.values(), max_value)
         if not wrong:
             wrong = {"OutOfRange"} if parts["slot"] < least else set()
             least = parts["slot"] + 1
@@ -49,14 +49,14 @@ def reports_in(fields, first, faults):
     return reports
 
 
-def message_parts(text):
+def message_parts(text, max_value=MAX_VALUE):
     """The parts of the message that a text encodes, of either form."""
     fields = fields_of(text)
     parts = meant(MESSAGE | RANGED_MESSAGE, fields)
     if parts["kind"] not in (PREPARE, PROMISE) or parts["form"] == ONE_SLOT:
-        return parts_of(text, MESSAGE, HEAD, IN_MESSAGE)
-    faults = faults_in(parts, [*HEAD, *FIRST])
-    reports = reports_in(fields, parts["slot"], faults) if parts["kind"] == PROMISE and parts["form"] == ALL_FROM else []
+        return parts_of(text, MESSAGE, HEAD, IN_MESSAGE, max_value)
+    faults, has_reports = faults_in(parts, [*HEAD, *FIRST]), parts["kind"] == PROMISE and parts["form"] == ALL_FROM
+    reports = reports_in(fields, parts["slot"], faults, max_value) if has_reports else []
     if parts["form"] != ALL_FROM:
         faults.add("BadWireType" if parts["form"] is None else "OutOfRange")
     if faults:
@@ -64,9 +64,9 @@ def message_parts(text):
     return {name: parts[name] for name in RANGED_MESSAGE.values()} | {"reports": reports}
 
 
-def record_parts(text):
+def record_parts(text, max_value=MAX_VALUE):
     """The parts of the record that a text encodes, also of a promise of all slots from one on."""
-    return parts_of(text, RECORD, [], IN_RANGED_RECORD)
+    return parts_of(text, RECORD, [], IN_RANGED_RECORD, max_value)
 
 
 def text_of(parts):
