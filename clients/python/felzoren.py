@@ -30,6 +30,7 @@ from collections import namedtuple
 
 __all__ = ["Ack", "BadAnswer", "Client", "DataType", "Field", "Info", "RecordBatch", "Refused", "Schema", "Table", "Ticket", "Upload",
            "connect", "connect_files", "infer_schema"]
+__version__ = "0.1.0"
 
 # The service's limits: bytes of a frame's payload and of an upload, batches of an upload, rows of a batch, values of a column.
 MAX_FRAME_BYTES = 4_194_304

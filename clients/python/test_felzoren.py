@@ -6,10 +6,13 @@
 Codecs are compared with independent examples: those of docs/FORMATS.md, the stories of the crates, and headers that the FlatBuffers
 compiler made. Calls are made over local sockets to PROGRAM (crates/call_server/out/call_server), which `rt ci call_server` builds.
 Without it the tests of calls fail."""
+import base64
 import contextlib
 import datetime
 import decimal
 import doctest
+import hashlib
+import importlib.util
 import io
 import itertools
 import math
@@ -19,11 +22,14 @@ import socket
 import struct
 import subprocess
 import sys
+import tarfile
+import tempfile
 import threading
 import time
 import tracemalloc
 import types
 import unittest
+import zipfile
 from pathlib import Path
 from unittest import mock
 
@@ -31,9 +37,11 @@ sys.dont_write_bytecode = True
 sys.path.insert(0, str(Path(__file__).resolve().parent))
 
 import felzoren
+import felzoren_build
 from felzoren import BadAnswer, DataType, Field, Refused, Schema, Ticket, bytes_field, data_message
 
-CRATES = Path(__file__).resolve().parent.parent.parent / "crates"
+FOLDER = Path(__file__).resolve().parent
+CRATES = FOLDER.parent.parent / "crates"
 PROGRAM = CRATES / "call_server" / "out" / "call_server"
 LOCATIONS = [f"plain+tcp://127.0.0.1:{port}" for port in (42000, 42001, 42002)]
 ID = bytes(range(16))
@@ -1113,6 +1121,78 @@ class Pandas(unittest.TestCase):
         batch = felzoren.write_batch(schema, [[1, None]], 2)
         table = felzoren.read_table([schema_message(schema), data_message(batch[0], ID, batch[1])])
         self.assertEqual(table.to_pandas(), ({"a": [1, None]}, 2))
+
+
+class Package(unittest.TestCase):
+    """What pip installs."""
+
+    def setUp(self):
+        found = tempfile.TemporaryDirectory()
+        self.addCleanup(found.cleanup)
+        self.folder = Path(found.name)
+
+    def run_python(self, *words, path=""):
+        """What Python prints, started away from this folder."""
+        environment = {**os.environ, "PYTHONPATH": str(path), "PIP_DISABLE_PIP_VERSION_CHECK": "1"}
+        done = subprocess.run([sys.executable, "-B", *map(str, words)], cwd=self.folder, env=environment, stdout=subprocess.PIPE,
+                              stderr=subprocess.STDOUT, text=True)
+        self.assertEqual(done.returncode, 0, done.stdout)
+        return done.stdout
+
+    def test_the_wheel(self):
+        name = felzoren_build.build_wheel(self.folder)
+        self.assertEqual(name, f"felzoren-{felzoren.__version__}-py3-none-any.whl")
+        with zipfile.ZipFile(self.folder / name) as wheel:
+            files = {it: wheel.read(it) for it in wheel.namelist()}
+        about = name[: -len("-py3-none-any.whl")] + ".dist-info"
+        self.assertEqual(sorted(files), sorted(["felzoren/__init__.py", "felzoren/py.typed",
+                                                *(f"{about}/{it}" for it in ("METADATA", "RECORD", "WHEEL"))]))
+        self.assertEqual(files["felzoren/__init__.py"], (FOLDER / "felzoren.py").read_bytes())
+        told = dict(line.split(",", 1) for line in files[f"{about}/RECORD"].decode().splitlines())
+        self.assertEqual(told.pop(f"{about}/RECORD"), ",")
+        self.assertEqual(told, {it: self.sum_of(files[it]) for it in files if not it.endswith("RECORD")})
+        self.assertIn("Requires-Python: >=3.8\n", files[f"{about}/METADATA"].decode())
+        place = self.run_python("-c", "import felzoren; print(felzoren.__file__)", path=self.folder / name)
+        self.assertEqual(Path(place.strip()), self.folder / name / "felzoren" / "__init__.py")
+
+    def sum_of(self, content):
+        digest = base64.urlsafe_b64encode(hashlib.sha256(content).digest()).decode().rstrip("=")
+        return f"sha256={digest},{len(content)}"
+
+    def test_the_source_distribution(self):
+        """It has all that builds the wheel again."""
+        name = felzoren_build.build_sdist(self.folder)
+        with tarfile.open(self.folder / name) as archive:
+            for member in archive.getmembers():
+                self.assertTrue(member.isfile() and member.name.startswith(name[: -len("tar.gz")].rstrip(".") + "/"), member.name)
+                place = self.folder / member.name
+                place.parent.mkdir(exist_ok=True)
+                place.write_bytes(archive.extractfile(member).read())
+        built = self.folder / "built"
+        built.mkdir()
+        self.run_python("-c", f"import felzoren_build; felzoren_build.build_wheel({str(built)!r})", path=place.parent)
+        wheel = felzoren_build.build_wheel(self.folder)
+        self.assertEqual((built / wheel).read_bytes(), (self.folder / wheel).read_bytes())
+
+    def test_the_project_is_read_as_it_is(self):
+        """As a reader of TOML has it, where Python has one (3.11)."""
+        found = felzoren_build.project()
+        self.assertEqual((found["name"], found["version"]), ("felzoren", felzoren.__version__))
+        if importlib.util.find_spec("tomllib"):
+            import tomllib
+
+            self.assertEqual(found, tomllib.loads((FOLDER / "pyproject.toml").read_text(encoding="utf-8"))["project"])
+
+    @unittest.skipUnless(importlib.util.find_spec("pip"), "pip is not installed")
+    def test_pip_installs_it_offline(self):
+        before = sorted(FOLDER.iterdir())
+        target = self.folder / "installed"
+        words = "-m pip install --quiet --no-build-isolation --no-index --no-compile --target".split()
+        self.run_python(*words, target, FOLDER)
+        self.assertEqual(sorted(it for it in FOLDER.iterdir() if it.name != "__pycache__"), [it for it in before if it.name != "__pycache__"])
+        self.assertEqual((target / "felzoren" / "py.typed").read_bytes(), b"")
+        place = self.run_python("-c", "import felzoren; print(felzoren.__file__)", path=target)
+        self.assertEqual(Path(place.strip()), target / "felzoren" / "__init__.py")
 
 
 if __name__ == "__main__":
