@@ -27,9 +27,11 @@ import socket
 import struct
 import time
 from collections import namedtuple
+from typing import (Any, BinaryIO, Callable, Dict, Iterable, Iterator, List, Mapping, NamedTuple, Optional, Protocol, Sequence, Tuple,
+                    TypeVar, Union)
 
-__all__ = ["Ack", "BadAnswer", "Client", "DataType", "Field", "Info", "RecordBatch", "Refused", "Schema", "Table", "Ticket", "Upload",
-           "connect", "connect_files", "infer_schema"]
+__all__ = ["Ack", "BadAnswer", "Client", "Column", "DataType", "Field", "Info", "RecordBatch", "Refused", "Schema", "Table", "Ticket",
+           "Upload", "connect", "connect_files", "infer_schema"]
 __version__ = "0.1.0"
 
 # The service's limits: bytes of a frame's payload and of an upload, batches of an upload, rows of a batch, values of a column.
@@ -65,13 +67,15 @@ class Refused(Exception):
     NoTable 5
     """
 
-    id = None
+    id: Optional[str] = None
+    status: int
+    name: str
 
-    def __init__(self, status, name):
+    def __init__(self, status: int, name: str) -> None:
         super().__init__(status, name)
         self.status, self.name = status, name
 
-    def __str__(self):
+    def __str__(self) -> str:
         return f"{self.name} ({self.status}{' ' + STATUSES[self.status] if self.status < len(STATUSES) else ''})"
 
 
@@ -85,7 +89,7 @@ class BadAnswer(Exception):
     ...     ack = client.put("sales", rows, id=fault.id)
     """
 
-    id = None
+    id: Optional[str] = None
 
 
 def check(holds, why):
@@ -364,7 +368,7 @@ ALIASES = {"string": "utf8", "str": "utf8", "bytes": "binary", "boolean": "bool"
            "double": "float64"}
 
 
-class DataType(namedtuple("DataType", "kind parameters fields")):
+class DataType(NamedTuple("DataType", [("kind", str), ("parameters", Tuple[Any, ...]), ("fields", "Tuple[Field, ...]")])):
     """A type of Arrow: the name of its table in Schema.fbs, that table's parameters, and its child fields. It is written as a short
     text, which can be used wherever a type is expected:
 
@@ -379,13 +383,13 @@ class DataType(namedtuple("DataType", "kind parameters fields")):
 
     __slots__ = ()
 
-    def __new__(cls, kind, parameters=(), fields=()):
+    def __new__(cls, kind: str, parameters: Iterable[Any] = (), fields: "Iterable[Field]" = ()) -> "DataType":
         return super().__new__(cls, kind, tuple(parameters), tuple(fields))
 
-    def __repr__(self):
+    def __repr__(self) -> str:
         return f"DataType('{self}')"
 
-    def __str__(self):
+    def __str__(self) -> str:
         plain = PLAIN_TEXTS.get((self.kind, self.parameters))
         if plain:
             return plain
@@ -498,10 +502,15 @@ def as_field(field):
 
 
 def as_metadata(entries):
-    return tuple((str(key), str(value)) for key, value in (entries.items() if isinstance(entries, dict) else entries))
+    return tuple((str(key), str(value)) for key, value in (entries.items() if isinstance(entries, Mapping) else entries))
 
 
-class Field(namedtuple("Field", "name type nullable metadata")):
+# What makes a type, and what makes the metadata of a field or a schema: texts by keys, or pairs of them.
+TypeLike = Union[DataType, str]
+Metadata = Union[Mapping[str, str], Iterable[Tuple[str, str]]]
+
+
+class Field(NamedTuple("Field", [("name", str), ("type", DataType), ("nullable", bool), ("metadata", Tuple[Tuple[str, str], ...])])):
     """A named type: of a column, or of a child of another type. `metadata` are pairs of texts.
 
     >>> felzoren.Field("day", "date32", nullable=False)
@@ -510,17 +519,22 @@ class Field(namedtuple("Field", "name type nullable metadata")):
 
     __slots__ = ()
 
-    def __new__(cls, name, type, nullable=True, metadata=()):
+    def __new__(cls, name: str, type: TypeLike, nullable: bool = True, metadata: Metadata = ()) -> "Field":
         return super().__new__(cls, name, as_type(type), bool(nullable), as_metadata(metadata))
 
-    def __str__(self):
+    def __str__(self) -> str:
         return f"{quoted(self.name, NAME)}: {self.type}{'' if self.nullable else ' not null'}"
 
-    def __repr__(self):
+    def __repr__(self) -> str:
         return f"Field('{self}')"
 
 
-class Schema(namedtuple("Schema", "fields metadata")):
+# What makes a field, such as `"sold: int64"` or `("sold", "int64")`, and what makes the fields of a schema.
+FieldLike = Union[Field, str, Sequence[Any]]
+Fields = Union[Mapping[str, TypeLike], Iterable[FieldLike]]
+
+
+class Schema(NamedTuple("Schema", [("fields", Tuple[Field, ...]), ("metadata", Tuple[Tuple[str, str], ...])])):
     """The fields of a table's columns, in order: a dict of names and types, or a list of `Field`s, of pairs, or of texts.
 
     >>> felzoren.Schema({"shop": "utf8", "sold": "int64"}) == felzoren.Schema(["shop: utf8", "sold: int64"])
@@ -529,16 +543,20 @@ class Schema(namedtuple("Schema", "fields metadata")):
 
     __slots__ = ()
 
-    def __new__(cls, fields, metadata=()):
-        fields = fields.items() if isinstance(fields, dict) else fields
+    def __new__(cls, fields: Fields, metadata: Metadata = ()) -> "Schema":
+        fields = fields.items() if isinstance(fields, Mapping) else fields
         return super().__new__(cls, tuple(map(as_field, fields)), as_metadata(metadata))
 
     @property
-    def names(self):
+    def names(self) -> List[str]:
         return [it.name for it in self.fields]
 
-    def __str__(self):
+    def __str__(self) -> str:
         return "\n".join(map(str, self.fields))
+
+
+# What makes a schema.
+SchemaLike = Union[Schema, Fields]
 
 
 # ---- headers (Apache Arrow, "Message.fbs" and "Schema.fbs")
@@ -1000,20 +1018,25 @@ def write_batch(schema, columns, rows):
     return batch_header(rows, body.nodes, body.buffers, len(body.text)), bytes(body.text)
 
 
-class Column(namedtuple("Column", "type length null_count validity data children")):
+class Column(NamedTuple):
     """A column of a received batch, checked: Arrow's buffers `validity` (empty if nothing is null) and `data`, a list of buffers, and the
     child columns."""
 
-    __slots__ = ()
+    type: DataType
+    length: int
+    null_count: int
+    validity: bytes
+    data: List[bytes]
+    children: "List[Column]"
 
-    def to_pylist(self):
+    def to_pylist(self) -> List[Any]:
         """The values, None for nulls."""
         cells = getattr(self, LAYOUTS.get(self.type.kind, "fixed"))()
         if not self.validity:
             return cells
         return [cell if there else None for cell, there in zip(cells, read_bits(self.validity, self.length))]
 
-    def fixed(self):
+    def fixed(self) -> List[Any]:
         if self.type.kind == "Null":
             return [None] * self.length
         storage, data = storage_of(self.type), self.data[0]
@@ -1023,25 +1046,25 @@ class Column(namedtuple("Column", "type length null_count validity data children
             cells = [data[it * storage.width : (it + 1) * storage.width] for it in range(self.length)]
         return list(map(storage.load, cells)) if storage.load else cells
 
-    def bools(self):
+    def bools(self) -> List[bool]:
         return read_bits(self.data[0], self.length)
 
-    def slices(self, values):
+    def slices(self, values: Any) -> List[Any]:
         ends = struct.unpack(f"<{self.length + 1}i", self.data[0])
         return [values[first:last] for first, last in zip(ends, ends[1:])]
 
-    def texts(self):
+    def texts(self) -> List[Any]:
         found = self.slices(self.data[1])
         return [it.decode() for it in found] if self.type.kind == "Utf8" else found
 
-    def lists(self):
+    def lists(self) -> List[Any]:
         return self.slices(self.children[0].to_pylist())
 
-    def fixed_lists(self):
+    def fixed_lists(self) -> List[Any]:
         size, values = self.type.parameters[0], self.children[0].to_pylist()
         return [values[it * size : (it + 1) * size] for it in range(self.length)]
 
-    def structs(self):
+    def structs(self) -> List[Any]:
         names = [it.name for it in self.type.fields]
         rows = rows_of([it.to_pylist() for it in self.children], self.length)
         return [dict(zip(names, it)) for it in rows] if len(set(names)) == len(names) else list(rows)
@@ -1153,16 +1176,18 @@ def read_batch(schema, header, text):
 # ---- tables
 
 
-class RecordBatch(namedtuple("RecordBatch", "schema num_rows columns")):
+class RecordBatch(NamedTuple):
     """A received batch of a table: its columns hold Arrow's buffers, and the values are made when they are asked for."""
 
-    __slots__ = ()
+    schema: Schema
+    num_rows: int
+    columns: List[Column]
 
-    def to_columns(self):
+    def to_columns(self) -> List[List[Any]]:
         """The values of each column, as lists."""
         return [it.to_pylist() for it in self.columns]
 
-    def to_pylist(self):
+    def to_pylist(self) -> List[Dict[str, Any]]:
         """The rows as dicts."""
         names = distinct(self.schema.names)
         return [dict(zip(names, row)) for row in rows_of(self.to_columns(), self.num_rows)]
@@ -1175,8 +1200,11 @@ def distinct(names):
     return names
 
 
-Upload = namedtuple("Upload", "id batches")
-Upload.__doc__ = """An upload of a version: its id, as 32 hexadecimal digits, and its batches."""
+class Upload(NamedTuple):
+    """An upload of a version: its id, as 32 hexadecimal digits, and its batches."""
+
+    id: str
+    batches: List[RecordBatch]
 
 
 class Table:
@@ -1187,30 +1215,34 @@ class Table:
     (2, ['shop', 'sold'], ['000102030405060708090a0b0c0d0e0f'])
     """
 
-    def __init__(self, schema, uploads, num_bytes):
+    schema: Schema
+    uploads: List[Upload]
+    num_bytes: int
+
+    def __init__(self, schema: Schema, uploads: List[Upload], num_bytes: int) -> None:
         self.schema, self.uploads, self.num_bytes = schema, uploads, num_bytes
 
-    def __repr__(self):
+    def __repr__(self) -> str:
         return f"<felzoren.Table of {self.num_rows} rows, {len(self.uploads)} uploads: {', '.join(map(str, self.schema.fields))}>"
 
     @property
-    def batches(self):
+    def batches(self) -> List[RecordBatch]:
         """The batches of all uploads."""
         return [batch for upload in self.uploads for batch in upload.batches]
 
     @property
-    def num_rows(self):
+    def num_rows(self) -> int:
         return sum(it.num_rows for it in self.batches)
 
-    def to_columns(self):
+    def to_columns(self) -> List[List[Any]]:
         """The values of each column, as lists, in the order of the schema: also of columns that share a name."""
-        columns = [[] for _ in self.schema.fields]
+        columns: List[List[Any]] = [[] for _ in self.schema.fields]
         for batch in self.batches:
             for cells, more in zip(columns, batch.to_columns()):
                 cells += more
         return columns
 
-    def to_pydict(self):
+    def to_pydict(self) -> Dict[str, List[Any]]:
         """The columns by name.
 
         >>> client.get("sales").to_pydict()
@@ -1218,7 +1250,7 @@ class Table:
         """
         return dict(zip(distinct(self.schema.names), self.to_columns()))
 
-    def to_pylist(self):
+    def to_pylist(self) -> List[Dict[str, Any]]:
         """The rows as dicts.
 
         >>> client.get("sales").to_pylist()
@@ -1226,7 +1258,7 @@ class Table:
         """
         return [row for batch in self.batches for row in batch.to_pylist()]
 
-    def to_pandas(self):
+    def to_pandas(self) -> Any:
         """A pandas `DataFrame` of the columns, with the types that pandas chooses.
 
         >>> client.get("sales").to_pandas().groupby("shop").sum()
@@ -1263,6 +1295,20 @@ def data_message(header, name, body):
 
 
 # ---- inputs: rows and columns of Python values
+
+
+class DataFrameLike(Protocol):
+    """What `put` uses of a pandas DataFrame."""
+
+    @property
+    def iloc(self) -> Any: ...
+
+    @property
+    def columns(self) -> Any: ...
+
+
+# What `put` takes: rows, a dict of columns, or a DataFrame.
+Data = Union[Dict[str, Any], Iterable[Union[Dict[str, Any], Sequence[Any]]], DataFrameLike]
 
 
 def infer_type(values, name):
@@ -1309,7 +1355,7 @@ def infer_fields(columns, path=""):
     return [Field(name, infer_type(cells, path + name)) for name, cells in columns.items()]
 
 
-def infer_schema(data):
+def infer_schema(data: Data) -> Schema:
     """The schema that `put` uses for rows or columns if it is given none: bool, int (int64), float (float64), str (utf8), bytes
     (binary), list, dict (struct), `Decimal`, `date`, `time`, `datetime` (timestamp[us]), `timedelta`; None alone is null. Every field
     is nullable.
@@ -1479,26 +1525,32 @@ class FilesConnection(namedtuple("FilesConnection", "reader writer")):
 
 # ---- calls (Apache Arrow, "Arrow Flight RPC")
 
-Ack = namedtuple("Ack", "id version")
-Ack.__doc__ = """The acknowledgement of an upload: its id, as 32 hexadecimal digits, and the version of the table that it made."""
 
 
-class Ticket(namedtuple("Ticket", "table version")):
+class Ack(NamedTuple):
+    """The acknowledgement of an upload: its id, as 32 hexadecimal digits, and the version of the table that it made."""
+
+    id: str
+    version: int
+
+
+class Ticket(NamedTuple):
     """A request for a version of a table.
 
     >>> felzoren.Ticket("sales", 3).encode().hex()
     '0a0573616c65731003'
     """
 
-    __slots__ = ()
+    table: str
+    version: int
 
-    def encode(self):
+    def encode(self) -> bytes:
         if not isinstance(self.version, int) or not 1 <= self.version < 1 << 64:
             raise ValueError(f"{self.version!r} is no version: they are numbered from 1 on")
         return bytes_field(1, table_name(self.table)) + number_field(2, self.version)
 
 
-class Info(namedtuple("Info", "table schema ticket locations total_records total_bytes")):
+class Info(NamedTuple):
     """What the service reports about the latest version of a table: the schema, the ticket that asks for it, where it is served, and how
     many rows and bytes it has.
 
@@ -1507,7 +1559,12 @@ class Info(namedtuple("Info", "table schema ticket locations total_records total
     (1, 2)
     """
 
-    __slots__ = ()
+    table: str
+    schema: Schema
+    ticket: Ticket
+    locations: List[str]
+    total_records: int
+    total_bytes: int
 
 
 def table_name(table):
@@ -1572,19 +1629,34 @@ def only(messages):
     return found[0]
 
 
+class Connection(Protocol):
+    """What a call needs of its connection: `read` returns at most `count` bytes, and none at the end."""
+
+    def write(self, data: bytes) -> None: ...
+
+    def read(self, count: int) -> bytes: ...
+
+    def close(self) -> None: ...
+
+
+# The id of an upload as it is given, and what a call returns.
+UploadId = Union[str, bytes, bytearray, None]
+Result = TypeVar("Result")
+
+
 class Client:
     """Makes calls to a service, with a connection for each; see `connect`. Several threads can use it at a time."""
 
-    def __init__(self, open_connection, max_bytes=MAX_ANSWER_BYTES):
+    def __init__(self, open_connection: Callable[[], Connection], max_bytes: int = MAX_ANSWER_BYTES) -> None:
         self.open_connection, self.max_bytes = open_connection, max_bytes
 
-    def call(self, method, messages, read):
+    def call(self, method: str, messages: Iterable[bytes], read: Callable[[Iterator[bytes]], Result]) -> Result:
         """Makes a call, and returns what `read` makes of the messages of its answer."""
         with contextlib.closing(self.open_connection()) as connection:
             connection.write(request(method, messages))
             return read(read_messages(connection.read, self.max_bytes))
 
-    def put(self, table, data, schema=None, id=None):
+    def put(self, table: str, data: Data, schema: Optional[SchemaLike] = None, id: UploadId = None) -> Ack:
         """Uploads rows to a table, which the first upload to it creates, and returns its `Ack`.
 
         `data` are rows (dicts, or sequences if a schema is given), a dict of columns, or a pandas DataFrame. `schema` is a `Schema`, or
@@ -1600,7 +1672,7 @@ class Client:
         batches = [it for first in starts for it in encode_batches(schema, columns, first, min(first + BATCH_ROWS, count))]
         return self.put_encoded(table, schema, batches, id)
 
-    def put_batches(self, table, batches, schema, id=None):
+    def put_batches(self, table: str, batches: Iterable[Data], schema: SchemaLike, id: UploadId = None) -> Ack:
         """Uploads like `put`, in exactly these batches, each of rows or columns.
 
         >>> client.put_batches("sales", [[("Basel", 40)], [("Genf", None)]], {"shop": "utf8", "sold": "int64"})
@@ -1613,7 +1685,7 @@ class Client:
             check_batch(encoded[-1], count)
         return self.put_encoded(table, schema, encoded, id)
 
-    def put_encoded(self, table, schema, batches, id):
+    def put_encoded(self, table: str, schema: Schema, batches: Sequence[Tuple[bytes, bytes]], id: UploadId) -> Ack:
         """Uploads batches that are given as a header and a body each."""
         id, header, path = upload_id(id), schema_header(schema), table_name(table)
         check_upload(table, header, batches)
@@ -1625,7 +1697,7 @@ class Client:
             fault.id = id.hex()
             raise
 
-    def get(self, table, version=None):
+    def get(self, table: str, version: Optional[int] = None) -> Table:
         """A version of a table, or its latest.
 
         >>> client.get("sales", version=1).num_rows
@@ -1633,7 +1705,7 @@ class Client:
         """
         return self.redeem(self.info(table).ticket if version is None else Ticket(table, version))
 
-    def redeem(self, ticket):
+    def redeem(self, ticket: Union[Ticket, bytes]) -> Table:
         """The version of a table that a ticket asks for: a `Ticket`, or the bytes of one.
 
         >>> client.redeem(client.info("sales").ticket).num_rows
@@ -1642,7 +1714,7 @@ class Client:
         content = ticket.encode() if isinstance(ticket, Ticket) else ticket
         return self.call("DoGet", [bytes_field(1, content)], read_table)
 
-    def info(self, table):
+    def info(self, table: str) -> Info:
         """What the service reports about the latest version of a table, as `Info`.
 
         >>> client.info("sales").locations[0]
@@ -1652,7 +1724,7 @@ class Client:
         check(info.table == table, "an info is of another table")
         return info
 
-    def schema(self, table):
+    def schema(self, table: str) -> Schema:
         """The schema of a table.
 
         >>> print(client.schema("sales"))
@@ -1662,7 +1734,7 @@ class Client:
         message = self.call("GetSchema", [descriptor(table_name(table))], only)
         return read_encapsulated(Message(message).bytes(1))
 
-    def list(self):
+    def list(self) -> List[Info]:
         """An `Info` of each table.
 
         >>> [info.table for info in client.list()]
@@ -1675,7 +1747,7 @@ def as_schema(schema):
     return schema if isinstance(schema, Schema) else Schema(schema)
 
 
-def connect(location, timeout=None, max_bytes=MAX_ANSWER_BYTES):
+def connect(location: Union[str, Iterable[str]], timeout: Optional[float] = None, max_bytes: int = MAX_ANSWER_BYTES) -> Client:
     """A client of the service at a location, `"127.0.0.1:42000"` or `"plain+tcp://127.0.0.1:42000"`, or at a list of them, of which each
     call uses the first that can be reached.
 
@@ -1691,7 +1763,7 @@ def connect(location, timeout=None, max_bytes=MAX_ANSWER_BYTES):
     return Client(lambda: SocketConnection(addresses, timeout), max_bytes)
 
 
-def connect_files(reader, writer, max_bytes=MAX_ANSWER_BYTES):
+def connect_files(reader: BinaryIO, writer: BinaryIO, max_bytes: int = MAX_ANSWER_BYTES) -> Client:
     """A client of a service that answers one call after another over two buffered binary files, such as the pipes of a process. There
     is no timeout; and after a `BadAnswer` the files can't be used any more.
 

@@ -13,6 +13,7 @@ import decimal
 import doctest
 import hashlib
 import importlib.util
+import inspect
 import io
 import itertools
 import math
@@ -28,6 +29,7 @@ import threading
 import time
 import tracemalloc
 import types
+import typing
 import unittest
 import zipfile
 from pathlib import Path
@@ -1121,6 +1123,42 @@ class Pandas(unittest.TestCase):
         batch = felzoren.write_batch(schema, [[1, None]], 2)
         table = felzoren.read_table([schema_message(schema), data_message(batch[0], ID, batch[1])])
         self.assertEqual(table.to_pandas(), ({"a": [1, None]}, 2))
+
+
+def public_functions():
+    """The functions of the library that are public, and those of its public classes, by their names."""
+    for name in felzoren.__all__:
+        thing = getattr(felzoren, name)
+        for key, member in (vars(thing) if isinstance(thing, type) else {"": thing}).items():
+            function = getattr(member, "fget", None) or getattr(member, "__func__", member)
+            is_written = isinstance(function, types.FunctionType) and function.__code__.co_filename == felzoren.__file__
+            if is_written and (key in ("__init__", "__new__", "__str__", "__repr__") or not key.startswith("_")):
+                yield f"{name}.{key}".rstrip("."), function
+
+
+class Annotations(unittest.TestCase):
+    """What editors and type checkers are told."""
+
+    def test_each_signature(self):
+        """Each parameter and each result has a type, which resolves."""
+        count = 0
+        for name, function in public_functions():
+            parameters = set(inspect.signature(function).parameters) - {"self", "cls"}
+            self.assertEqual(set(typing.get_type_hints(function)), parameters | {"return"}, name)
+            count += 1
+        self.assertGreater(count, 40)
+
+    def test_each_attribute(self):
+        attributes = {"Refused": ("status", "name", "id"), "BadAnswer": ("id",), "Table": ("schema", "uploads", "num_bytes")}
+        for name in felzoren.__all__:
+            thing = getattr(felzoren, name)
+            hints = typing.get_type_hints(thing) if isinstance(thing, type) else {}
+            self.assertLessEqual({*getattr(thing, "_fields", ()), *attributes.get(name, ())}, set(hints), name)
+        self.assertEqual(typing.get_type_hints(felzoren.Ticket), {"table": str, "version": int})
+
+    def test_all_that_is_public_is_there(self):
+        self.assertEqual(felzoren.__all__, sorted(felzoren.__all__))
+        self.assertTrue(all(getattr(felzoren, it).__doc__ for it in felzoren.__all__))
 
 
 class Package(unittest.TestCase):
