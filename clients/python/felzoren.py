@@ -13,6 +13,7 @@ failed, or the timeout is over).
 The layers of the file, from the wire upwards: fields, frames, FlatBuffers, types, headers, values, columns, tables, inputs,
 connections, calls. The client does not trust what a service sends: each layer raises `BadAnswer` if lengths, counts, places, limits or
 texts are not as docs/FORMATS.md says, before it allocates memory for what they announce."""
+import array
 import contextlib
 import datetime
 import decimal
@@ -25,6 +26,7 @@ import reprlib
 import selectors
 import socket
 import struct
+import sys
 import time
 from collections import namedtuple
 from typing import (Any, BinaryIO, Callable, Dict, Iterable, Iterator, List, Mapping, NamedTuple, Optional, Protocol, Sequence, Tuple,
@@ -180,7 +182,7 @@ class Message:
 
 def utf8(content):
     try:
-        return content.decode()
+        return str(content, "utf-8")
     except UnicodeDecodeError:
         raise BadAnswer("NotUtf8") from None
 
@@ -1019,15 +1021,48 @@ def write_batch(schema, columns, rows):
 
 
 class Column(NamedTuple):
-    """A column of a received batch, checked: Arrow's buffers `validity` (empty if nothing is null) and `data`, a list of buffers, and the
-    child columns."""
+    """A column of a received batch, checked: Arrow's buffers `validity` (empty if nothing is null) and `buffers`, read-only views of the
+    body as it was received, and the child columns."""
 
     type: DataType
     length: int
     null_count: int
     validity: bytes
-    data: List[bytes]
+    buffers: List[memoryview]
     children: "List[Column]"
+
+    def __reduce__(self) -> Tuple[Any, ...]:
+        return Column, (*self[:4], self.data, self.children)  # views can't be pickled
+
+    @property
+    def data(self) -> List[bytes]:
+        """Copies of `buffers`."""
+        return [bytes(it) for it in self.buffers]
+
+    def buffer(self) -> memoryview:
+        """The stored values, if each has the same number of bytes and none is null: a read-only view of the body as it was received, of
+        which nothing is copied.
+
+        >>> ack = client.put("days", {"sold": [3, 40]})
+        >>> client.get("days").batches[0].column("sold").buffer().tolist()
+        [3, 40]
+
+        The view's format is that of the stored numbers: Int and FloatingPoint as they are, but a half float as its bits, `H`; a date, a
+        time, a timestamp or a duration as the count of its unit. Decimal and FixedSizeBinary are bytes, `B`, so many for each value. The
+        values in a list of fixed size are those of `children[0]`.
+
+        `ValueError`: there is no such view."""
+        if self.type.kind not in STORAGES:
+            raise ValueError(f"{self.type} has no values of a fixed number of bytes: use to_pylist()")
+        if self.null_count:
+            raise ValueError(f"a view has no nulls, and the column has {self.null_count}: use to_pylist()")
+        view, form = memoryview(self.buffers[0]), storage_of(self.type).form
+        if form is None:
+            return view
+        if sys.byteorder != "little" and storage_of(self.type).width > 1:
+            raise ValueError("the stored numbers have their low byte first, unlike this machine's: use to_pylist()")
+        form = "H" if form == "e" else form  # no view before Python 3.12 has half floats
+        return view.cast(form) if self.length else memoryview(array.array(form)).toreadonly()
 
     def to_pylist(self) -> List[Any]:
         """The values, None for nulls."""
@@ -1039,22 +1074,23 @@ class Column(NamedTuple):
     def fixed(self) -> List[Any]:
         if self.type.kind == "Null":
             return [None] * self.length
-        storage, data = storage_of(self.type), self.data[0]
+        storage = storage_of(self.type)
         if storage.form:
-            cells = list(struct.unpack(f"<{self.length}{storage.form}", data))
+            cells = list(struct.unpack(f"<{self.length}{storage.form}", self.buffers[0]))
         else:
+            data = bytes(self.buffers[0])
             cells = [data[it * storage.width : (it + 1) * storage.width] for it in range(self.length)]
         return list(map(storage.load, cells)) if storage.load else cells
 
     def bools(self) -> List[bool]:
-        return read_bits(self.data[0], self.length)
+        return read_bits(self.buffers[0], self.length)
 
     def slices(self, values: Any) -> List[Any]:
-        ends = struct.unpack(f"<{self.length + 1}i", self.data[0])
+        ends = struct.unpack(f"<{self.length + 1}i", self.buffers[0])
         return [values[first:last] for first, last in zip(ends, ends[1:])]
 
     def texts(self) -> List[Any]:
-        found = self.slices(self.data[1])
+        found = self.slices(bytes(self.buffers[1]))
         return [it.decode() for it in found] if self.type.kind == "Utf8" else found
 
     def lists(self) -> List[Any]:
@@ -1081,10 +1117,10 @@ class BodyReader:
     is only made if a column has bytes of its own for each value."""
 
     def __init__(self, nodes, buffers, text):
-        self.nodes, self.buffers, self.text, self.place = iter(nodes), iter(buffers), text, 0
+        self.nodes, self.buffers, self.text, self.place = iter(nodes), iter(buffers), memoryview(text), 0
 
     def buffer(self, length):
-        """The next buffer, which must have `length` bytes, and then zero bytes up to a multiple of eight."""
+        """A view of the next buffer, which must have `length` bytes, and then zero bytes up to a multiple of eight."""
         check(next(self.buffers, None) == (self.place, length), "BufferRange")
         end = self.place + length
         content, self.place = self.text[self.place : end], end + -end % 8
@@ -1111,7 +1147,7 @@ class BodyReader:
         if type.kind == "Null":
             check(nulls == length, "NullCount")
             return Column(type, length, nulls, b"", [], [])
-        validity = self.bits(length if nulls else 0)
+        validity = bytes(self.bits(length if nulls else 0))
         gaps = (1 << length) - 1 ^ int.from_bytes(validity, "little") if nulls else 0
         check(nulls == bin(gaps).count("1"), "NullCount")
         check(not gaps or not gaps & blank(), "there is a null under a null")
@@ -1182,6 +1218,14 @@ class RecordBatch(NamedTuple):
     schema: Schema
     num_rows: int
     columns: List[Column]
+
+    def column(self, name: str) -> Column:
+        """The column of this name; `KeyError` if there is none, and `ValueError` if there are several.
+
+        >>> client.get("sales").batches[0].column("sold").to_pylist()
+        [3, None]
+        """
+        return dict(zip(distinct(self.schema.names), self.columns))[name]
 
     def to_columns(self) -> List[List[Any]]:
         """The values of each column, as lists."""

@@ -6,8 +6,10 @@
 Codecs are compared with independent examples: those of docs/FORMATS.md, the stories of the crates, and headers that the FlatBuffers
 compiler made. Calls are made over local sockets to PROGRAM (crates/call_server/out/call_server), which `rt ci call_server` builds.
 Without it the tests of calls fail."""
+import array
 import base64
 import contextlib
+import copy
 import datetime
 import decimal
 import doctest
@@ -18,6 +20,7 @@ import io
 import itertools
 import math
 import os
+import pickle
 import re
 import socket
 import struct
@@ -816,6 +819,107 @@ class Answers(unittest.TestCase):
         for call in (table.to_pydict, table.to_pylist, table.to_pandas):
             with self.assertRaises((ValueError, ImportError)):
                 call()
+
+
+# The format of the view that a column without nulls has, by its type.
+VIEWED = {
+    **dict(zip("int8 int16 int32 int64 uint8 uint16 uint32 uint64".split(), "bhiqBHIQ")), "float16": "H", "float32": "f", "float64": "d",
+    "date32": "i", "date64": "q", "time32[s]": "i", "time32[ms]": "i", "time64[us]": "q", "time64[ns]": "q", "duration[s]": "q",
+    **{f"timestamp[{it}]": "q" for it in ("s", "ms", "us", "ns", "us, Europe/Paris")}, **{f"duration[{it}]": "q" for it in ("ms", "us", "ns")},
+    "decimal128(10, 2)": "B", "decimal256(76, -3)": "B", "fixed_size_binary[3]": "B", "fixed_size_binary[0]": "B",
+}
+
+
+class Views(unittest.TestCase):
+    """What `Column.buffer` returns."""
+
+    def column_of(self, type, values):
+        """The column with these values, and the body from which it was read."""
+        schema = Schema({"a": type})
+        header, body = felzoren.write_batch(schema, [values], len(values))
+        return felzoren.read_batch(schema, header, body).column("a"), body
+
+    def test_each_type_without_nulls(self):
+        for type, values in EVERY_TYPE.items():
+            column, body = self.column_of(type, [it for it in values if it is not None])
+            if type not in VIEWED:
+                self.assertRaisesRegex(ValueError, "fixed number of bytes", column.buffer)
+                continue
+            view, width = column.buffer(), felzoren.storage_of(column.type).width
+            self.assertEqual((view.format, view.readonly, view.nbytes), (VIEWED[type], True, 2 * width), type)
+            self.assertEqual((view.obj is body, bytes(view)), (True, body[: 2 * width]), type)
+            if type.startswith(("int", "uint", "float32", "float64")):
+                self.assertEqual(view.tolist(), column.to_pylist(), type)
+        self.assertLess(set(VIEWED), set(EVERY_TYPE))
+
+    def test_the_counts_of_times(self):
+        for type, value, stored in STORED:
+            if type in VIEWED and VIEWED[type] in "iq":
+                column, _ = self.column_of(type, [value])
+                self.assertEqual(column.buffer().tolist(), [int.from_bytes(bytes.fromhex(stored), "little", signed=True)], type)
+
+    def test_columns_without_values(self):
+        for type, form in VIEWED.items():
+            view = self.column_of(type, [])[0].buffer()
+            self.assertEqual((view.format, view.readonly, view.tolist()), (form, True, []), type)
+
+    def test_columns_without_a_view(self):
+        for type in VIEWED:
+            self.assertRaisesRegex(ValueError, "has no nulls, and the column has 1", self.column_of(type, EVERY_TYPE[type])[0].buffer)
+        with mock.patch.object(sys, "byteorder", "big"):
+            self.assertRaisesRegex(ValueError, "low byte first", self.column_of("int16", [1])[0].buffer)
+            self.assertEqual(self.column_of("int8", [1])[0].buffer().tolist(), [1])
+
+    def test_the_values_in_lists(self):
+        column, body = self.column_of("fixed_size_list<float32>[2]", [[0.5, 1.0], [1.5, 2.0]])
+        self.assertEqual(column.children[0].buffer().tolist(), [0.5, 1.0, 1.5, 2.0])
+        self.assertIs(column.children[0].buffer().obj, body)
+        self.assertRaises(ValueError, column.buffer)
+
+    def test_nothing_is_copied(self):
+        column, body = self.column_of("int64", list(range(500_000)))
+        tracemalloc.start()
+        view = column.buffer()
+        self.assertLess(tracemalloc.get_traced_memory()[1], 10_000)
+        tracemalloc.stop()
+        self.assertEqual((len(view), view[-1], view[499_998]), (500_000, 499_999, 499_998))
+        with self.assertRaises(TypeError):
+            view[0] = 1
+        numbers = array.array(view.format)
+        numbers.frombytes(view.cast("B"))
+        self.assertEqual(numbers, array.array("q", range(500_000)))
+
+    def test_lists_and_bytes_are_as_ever(self):
+        """Also of a copy, and where a table was sent to another process."""
+        types = [it for it in EVERY_TYPE if it != "null"]
+        table = felzoren.read_table(version_of(types))
+        for found in (table, copy.deepcopy(table), pickle.loads(pickle.dumps(table))):
+            self.assertEqual(found.to_columns(), [EVERY_TYPE[it] for it in types])
+            for column, same in zip(found.batches[0].columns, table.batches[0].columns):
+                self.assertEqual({type(it) for it in (column.validity, *column.data)}, {bytes})
+                self.assertEqual(column, same)
+        column = pickle.loads(pickle.dumps(self.column_of("int16", [1, -2])[0]))
+        self.assertEqual((column.buffer().tolist(), column.buffer().readonly), ([1, -2], True))
+
+    def test_columns_by_their_names(self):
+        schema = Schema([("a", "int8"), ("b", "int8")])
+        batch = felzoren.read_batch(schema, *felzoren.write_batch(schema, [[1], [2]], 1))
+        self.assertEqual(batch.column("b").to_pylist(), [2])
+        self.assertRaises(KeyError, batch.column, "c")
+        schema = Schema([("a", "int8"), ("a", "int8")])
+        self.assertRaises(ValueError, batch._replace(schema=schema).column, "a")
+
+    @unittest.skipUnless(importlib.util.find_spec("numpy"), "numpy is not installed")
+    def test_numpy(self):
+        import numpy
+
+        column, body = self.column_of("int64", [1, -2])
+        found = numpy.asarray(column.buffer())
+        self.assertEqual((found.dtype.name, found.tolist(), found.flags.writeable, found.flags.owndata), ("int64", [1, -2], False, False))
+        days = numpy.frombuffer(self.column_of("date32", [1, 2])[0].buffer(), "int32").astype("datetime64[D]")
+        self.assertEqual(days.tolist(), [datetime.date(1970, 1, 2), datetime.date(1970, 1, 3)])
+        stamps = numpy.frombuffer(self.column_of("timestamp[us]", [moment(2024, 1, 1)])[0].buffer(), "datetime64[us]")
+        self.assertEqual(stamps.tolist(), [moment(2024, 1, 1)])
 
 
 def has_other_bytes(type, cell):
