@@ -27,13 +27,14 @@ import selectors
 import socket
 import struct
 import sys
+import threading
 import time
 from collections import namedtuple
-from typing import (Any, BinaryIO, Callable, Dict, Iterable, Iterator, List, Mapping, NamedTuple, Optional, Protocol, Sequence, Tuple,
-                    TypeVar, Union)
+from typing import (Any, BinaryIO, Callable, Dict, Iterable, Iterator, List, Literal, Mapping, NamedTuple, Optional, Protocol, Sequence,
+                    Tuple, TypeVar, Union)
 
-__all__ = ["Ack", "BadAnswer", "Client", "Column", "DataType", "Field", "Info", "RecordBatch", "Refused", "Schema", "Table", "Ticket",
-           "Upload", "connect", "connect_files", "infer_schema"]
+__all__ = ["Ack", "BadAnswer", "Behind", "Client", "Column", "DataType", "Field", "Info", "RecordBatch", "Refused", "Schema", "Table",
+           "Ticket", "Upload", "connect", "connect_files", "infer_schema"]
 __version__ = "0.1.0"
 
 # The service's limits: bytes of a frame's payload and of an upload, batches of an upload, rows of a batch, values of a column.
@@ -52,6 +53,10 @@ MAX_MESSAGE_FIELDS = 65_536
 # How many rows `put` puts into a batch, if they fit, and the most bytes of an answer, if `connect` is given no other limit.
 BATCH_ROWS = 65_536
 MAX_ANSWER_BYTES = 1 << 30
+# How many seconds `get` and `info` wait for a version if they are given no other number, and the pauses between two questions: the first
+# ones, and each further one.
+WAIT_SECONDS = 10.0
+FIRST_PAUSES, LAST_PAUSE = (0.05, 0.1, 0.2, 0.4, 0.8), 1.0
 
 # gRPC's names of statuses, by their numbers from 0 on ("Status codes and their use in gRPC").
 STATUSES = """OK CANCELLED UNKNOWN INVALID_ARGUMENT DEADLINE_EXCEEDED NOT_FOUND ALREADY_EXISTS PERMISSION_DENIED RESOURCE_EXHAUSTED
@@ -92,6 +97,30 @@ class BadAnswer(Exception):
     """
 
     id: Optional[str] = None
+
+
+class Behind(Exception):
+    """The node that was asked does not have a version yet that `at_least` asked for, though it was waited for: it has `version` of
+    `table`, or none of it, which is 0. It can be asked again, or another node can.
+
+    >>> try:
+    ...     client.get("sales", at_least=2, wait=0.1)
+    ... except felzoren.Behind as behind:
+    ...     print(behind)
+    the node has version 1 of sales, and not yet version 2
+    """
+
+    table: str
+    at_least: int
+    version: int
+
+    def __init__(self, table: str, at_least: int, version: int) -> None:
+        super().__init__(table, at_least, version)
+        self.table, self.at_least, self.version = table, at_least, version
+
+    def __str__(self) -> str:
+        found = f"version {self.version}" if self.version else "no version"
+        return f"the node has {found} of {self.table}, and not yet version {self.at_least}"
 
 
 def check(holds, why):
@@ -1683,8 +1712,9 @@ class Connection(Protocol):
     def close(self) -> None: ...
 
 
-# The id of an upload as it is given, and what a call returns.
+# The id of an upload and the version to wait for, as they are given, and what a call returns.
 UploadId = Union[str, bytes, bytearray, None]
+AtLeast = Union[int, Literal["mine"], None]
 Result = TypeVar("Result")
 
 
@@ -1693,6 +1723,9 @@ class Client:
 
     def __init__(self, open_connection: Callable[[], Connection], max_bytes: int = MAX_ANSWER_BYTES) -> None:
         self.open_connection, self.max_bytes = open_connection, max_bytes
+        # The latest version of each table that an upload of this client made.
+        self.put_versions: Dict[str, int] = {}
+        self.lock = threading.Lock()
 
     def call(self, method: str, messages: Iterable[bytes], read: Callable[[Iterator[bytes]], Result]) -> Result:
         """Makes a call, and returns what `read` makes of the messages of its answer."""
@@ -1736,18 +1769,30 @@ class Client:
         messages = [bytes_field(1, descriptor(path, id.hex().encode())) + bytes_field(2, header)]
         messages += [data_message(head, b"", body) for head, body in batches]
         try:
-            return Ack(id.hex(), self.call("DoPut", messages, lambda answer: read_version(only(answer), id)))
+            version = self.call("DoPut", messages, lambda answer: read_version(only(answer), id))
         except (Refused, BadAnswer, OSError) as fault:
             fault.id = id.hex()
             raise
+        with self.lock:
+            self.put_versions[table] = max(version, self.put_versions.get(table, 0))
+        return Ack(id.hex(), version)
 
-    def get(self, table: str, version: Optional[int] = None) -> Table:
-        """A version of a table, or its latest.
+    def get(self, table: str, version: Optional[int] = None, *, at_least: AtLeast = None, wait: float = WAIT_SECONDS) -> Table:
+        """A version of a table, or the latest that the node has which is asked.
 
         >>> client.get("sales", version=1).num_rows
         2
+
+        `at_least` and `wait` are those of `info`: what this client has put is in what it gets with `at_least="mine"`.
+
+        >>> ack = client.put("sales", [{"shop": "Basel", "sold": 40}])
+        >>> client.get("sales", at_least="mine").num_rows
+        3
         """
-        return self.redeem(self.info(table).ticket if version is None else Ticket(table, version))
+        if version is not None and at_least is None:
+            return self.redeem(Ticket(table, version))
+        info = self.info(table, at_least=at_least, wait=wait)
+        return self.redeem(info.ticket if version is None else Ticket(table, version))
 
     def redeem(self, ticket: Union[Ticket, bytes]) -> Table:
         """The version of a table that a ticket asks for: a `Ticket`, or the bytes of one.
@@ -1758,12 +1803,45 @@ class Client:
         content = ticket.encode() if isinstance(ticket, Ticket) else ticket
         return self.call("DoGet", [bytes_field(1, content)], read_table)
 
-    def info(self, table: str) -> Info:
+    def info(self, table: str, *, at_least: AtLeast = None, wait: float = WAIT_SECONDS) -> Info:
         """What the service reports about the latest version of a table, as `Info`.
 
         >>> client.info("sales").locations[0]
         'plain+tcp://127.0.0.1:42000'
-        """
+
+        A node learns what was put at another one a moment later. `at_least` is a version that the node has to have, such as that of an
+        `Ack`, or `"mine"`: the latest version that an upload of this client made. Then the node is asked again and again, at most for
+        `wait` seconds, and `Behind` is raised if it still does not have the version. Each question is a call, with its own timeout."""
+        least = self.least_version(table, at_least)
+        deadline = time.monotonic() + wait
+        for pause in itertools.chain(FIRST_PAUSES, itertools.repeat(LAST_PAUSE)):
+            try:
+                info = self.latest(table)
+                if info.ticket.version >= least:
+                    return info
+                version = info.ticket.version
+            except Refused as refused:
+                if not least or refused.name != "NoTable":
+                    raise
+                version = 0
+            left = deadline - time.monotonic()
+            if left <= 0:
+                break
+            time.sleep(min(pause, left))
+        raise Behind(table, least, version)
+
+    def least_version(self, table: str, at_least: AtLeast) -> int:
+        """The version that a node has to have, 0 for any."""
+        if at_least is None:
+            return 0
+        if at_least == "mine":
+            return self.put_versions.get(table, 0)
+        if not isinstance(at_least, int) or not 0 <= at_least < 1 << 64:
+            raise ValueError(f"{at_least!r} is neither a version nor \"mine\"")
+        return at_least
+
+    def latest(self, table: str) -> Info:
+        """What the node reports that is asked once."""
         info = self.call("GetFlightInfo", [descriptor(table_name(table))], lambda answer: read_info(only(answer)))
         check(info.table == table, "an info is of another table")
         return info

@@ -657,6 +657,32 @@ def story_answers():
             yield method[1], [bytes_of(it) for it in messages], int(status), text
 
 
+INFO_SCHEMA = felzoren.encapsulated(felzoren.schema_header(Schema({"a": "int8"})))
+
+
+def endpoint_of(ticket):
+    return bytes_field(1, bytes_field(1, ticket)) + bytes_field(2, bytes_field(1, b"x"))
+
+
+def info_message(path=b"t", endpoints=(endpoint_of(Ticket("t", 2).encode()),), records=5, size=6, ordered=1, schema=INFO_SCHEMA):
+    """What a node reports about a table."""
+    texts = [(1, schema), (2, felzoren.descriptor(path)), *((3, it) for it in endpoints)]
+    numbers = [(4, records), (5, size), (6, ordered)]
+    return b"".join([*(bytes_field(*it) for it in texts), *(felzoren.number_field(*it) for it in numbers)])
+
+
+def info_answer(version):
+    """The answer of a node that has this version of table `t`, 0 for no such table."""
+    if not version:
+        return answer([], 5, "NoTable")
+    return answer([info_message(endpoints=(endpoint_of(Ticket("t", version).encode()),))])
+
+
+def put_answer(id, version):
+    """The answer that acknowledges an upload."""
+    return answer([bytes_field(1, bytes_field(1, id) + felzoren.number_field(2, version))])
+
+
 def good_answers():
     """The answers of the stories, and one for each type: a method and its bytes."""
     told = {(method, answer(messages)) for method, messages, status, _ in story_answers() if not status}
@@ -737,25 +763,14 @@ class Answers(unittest.TestCase):
 
     def test_an_upload_of_another_id(self):
         told = lambda id, version: bytes_field(1, bytes_field(1, id) + felzoren.number_field(2, version))
-        self.assertEqual(self.result("DoPut", answer([told(ID, 3)])), (ID.hex(), 3))
+        self.assertEqual(self.result("DoPut", put_answer(ID, 3)), (ID.hex(), 3))
         for message in (told(bytes(16), 3), told(ID, 0), told(ID, 3) + b"\x10\1"):
             fault = self.result("DoPut", answer([message]))
             self.assertIsInstance(fault, BadAnswer)
             self.assertEqual(fault.id, ID.hex())
 
     def test_infos(self):
-        schema = felzoren.encapsulated(felzoren.schema_header(Schema({"a": "int8"})))
-
-        def endpoint_of(ticket):
-            return bytes_field(1, bytes_field(1, ticket)) + bytes_field(2, bytes_field(1, b"x"))
-
-        endpoint = endpoint_of(Ticket("t", 2).encode())
-
-        def info(path=b"t", endpoints=(endpoint,), records=5, size=6, ordered=1, schema=schema):
-            texts = [(1, schema), (2, felzoren.descriptor(path)), *((3, it) for it in endpoints)]
-            numbers = [(4, records), (5, size), (6, ordered)]
-            return b"".join([*(bytes_field(*it) for it in texts), *(felzoren.number_field(*it) for it in numbers)])
-
+        schema, info, endpoint = INFO_SCHEMA, info_message, endpoint_of(Ticket("t", 2).encode())
         wanted = ("t", Schema({"a": "int8"}), ("t", 2), ["x"], 5, 6)
         self.assertEqual(self.result("GetFlightInfo", answer([info()])), wanted)
         others = [info(path=b"u"), info(endpoints=()), info(endpoints=(endpoint, endpoint)), info(records=2**64 - 1), info(size=2**64 - 1),
@@ -935,6 +950,85 @@ def all_nullable(type):
     return type._replace(fields=[Field(it.name, all_nullable(it.type)) for it in type.fields])
 
 
+class OwnWrites(unittest.TestCase):
+    """Calls that wait for a version, of a node that answers one question after the other with the next version."""
+
+    def setUp(self):
+        self.pauses = []
+        self.start(mock.patch.object(time, "sleep", self.pauses.append))
+
+    def start(self, patch):
+        self.addCleanup(patch.stop)
+        return patch.start()
+
+    def client(self, *versions, more=b""):
+        return client_of(b"".join(map(info_answer, versions)) + more)
+
+    def behind(self, call, *words, **options):
+        """What is told of a version that did not come."""
+        with self.assertRaises(felzoren.Behind) as raised:
+            call(*words, **options)
+        return raised.exception
+
+    def test_the_node_has_it(self):
+        for least in (0, 1, 2, None, "mine"):
+            self.assertEqual(self.client(2).info("t", at_least=least).ticket, ("t", 2))
+        served = answer(version_of(["int8"]))
+        self.assertEqual(self.client(2, more=served).get("t", at_least=2).num_rows, 3)
+        self.assertEqual(self.pauses, [])
+
+    def test_the_pauses_grow(self):
+        client = self.client(0, 1, 1, 2, 2, 2, 2, 3, more=answer(version_of(["int8"])))
+        self.assertEqual(client.get("t", at_least=3, wait=60).num_rows, 3)
+        self.assertEqual(self.pauses, [0.05, 0.1, 0.2, 0.4, 0.8, 1, 1])
+
+    def test_a_version_and_one_to_wait_for(self):
+        asked = io.BytesIO()
+        served = info_answer(4) + info_answer(5) + answer(version_of(["int8"]))
+        felzoren.connect_files(io.BytesIO(served), asked).get("t", 3, at_least=5)
+        self.assertEqual(self.pauses, [0.05])
+        self.assertTrue(asked.getvalue().endswith(felzoren.request("DoGet", [bytes_field(1, Ticket("t", 3).encode())])))
+
+    def test_it_does_not_come(self):
+        told = self.behind(self.client(3).get, "t", at_least=4, wait=0)
+        self.assertEqual((told.table, told.at_least, told.version), ("t", 4, 3))
+        self.assertEqual(str(told), "the node has version 3 of t, and not yet version 4")
+        told = self.behind(self.client(0).info, "t", at_least=1, wait=-1)
+        self.assertEqual(str(told), "the node has no version of t, and not yet version 1")
+        self.assertEqual(str(pickle.loads(pickle.dumps(told))), str(told))
+        self.assertEqual(self.pauses, [])
+
+    def test_it_is_asked_at_the_end(self):
+        """The last pause is as long as the time that is left, and then the node is asked once more."""
+        now = [100.0]
+        self.start(mock.patch.object(time, "monotonic", lambda: now[0]))
+        self.start(mock.patch.object(time, "sleep", lambda pause: (self.pauses.append(pause), now.append(now.pop() + pause))))
+        self.assertEqual(self.behind(self.client(1, 2, 3, 4).info, "t", at_least=9, wait=0.25).version, 4)
+        for found, wanted in zip(self.pauses, (0.05, 0.1, 0.1, None)):
+            self.assertAlmostEqual(found, wanted)
+
+    def test_own_puts(self):
+        """A put that was acknowledged counts, for its table alone, and not one that was refused."""
+        client = client_of(put_answer(ID, 3) + put_answer(ID, 2) + answer([], 14, "Unavailable") + info_answer(2) + info_answer(3))
+        for _ in range(2):
+            client.put("t", [], {}, id=ID)
+        self.assertRaises(Refused, client.put, "t", [], {}, id=ID)
+        self.assertEqual(client.info("t", at_least="mine").ticket.version, 3)
+        self.assertEqual(self.pauses, [0.05])
+        self.assertEqual((client.least_version("t", "mine"), client.least_version("u", "mine")), (3, 0))
+
+    def test_other_refusals_are_told_at_once(self):
+        self.assertRaises(Refused, self.client(0).info, "t")
+        self.assertRaises(Refused, self.client(0).get, "t", at_least="mine")
+        self.assertRaises(Refused, client_of(answer([], 14, "Down")).info, "t", at_least=1)
+        self.assertRaises(BadAnswer, client_of(b"").info, "t", at_least=1)
+        self.assertEqual(self.pauses, [])
+
+    def test_no_versions(self):
+        for least in (-1, 1 << 64, "yours", "1", 1.0, b"mine"):
+            self.assertRaises(ValueError, self.client(1).info, "t", at_least=least)
+
+
 # ---- calls
 
 
@@ -1043,6 +1137,9 @@ class Calls(unittest.TestCase):
         self.assertEqual(self.client.redeem(self.client.info("sales").ticket).num_rows, 5)
         self.assertEqual(self.client.redeem(Ticket("sales", 2).encode()).num_rows, 3)
         self.assertEqual(self.client.info("sales").ticket, ("sales", 4))
+        self.assertEqual(self.client.get("sales", at_least="mine").num_rows, 5)
+        with self.assertRaisesRegex(felzoren.Behind, "the node has version 4 of sales, and not yet version 5"):
+            felzoren.connect(self.location, timeout=20).get("sales", at_least=5, wait=0.2)
 
     def test_refusals(self):
         schema = {"a": "int64"}
