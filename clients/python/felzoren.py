@@ -8,7 +8,7 @@
 
 A table grows by uploads. Each has an id, and makes one version of its table, however often it is put. A call ends with a result, with
 `Refused` (the service refused it, and says why), with `BadAnswer` (what came back is no answer), or with `OSError` (the connection
-failed, or the timeout is over).
+failed, or the timeout is over). Where a put's exception leaves open whether the upload was taken, it is `Undecided` too.
 
 The layers of the file, from the wire upwards: fields, frames, FlatBuffers, types, headers, values, columns, tables, inputs,
 connections, calls. The client does not trust what a service sends: each layer raises `BadAnswer` if lengths, counts, places, limits or
@@ -34,7 +34,7 @@ from typing import (Any, BinaryIO, Callable, Dict, Iterable, Iterator, List, Lit
                     Tuple, TypeVar, Union)
 
 __all__ = ["Ack", "BadAnswer", "Behind", "Client", "Column", "DataType", "Field", "Info", "RecordBatch", "Refused", "Schema", "Table",
-           "Ticket", "Upload", "connect", "connect_files", "infer_schema"]
+           "Ticket", "Undecided", "Upload", "connect", "connect_files", "infer_schema"]
 __version__ = "0.1.0"
 
 # The service's limits: bytes of a frame's payload and of an upload, batches of an upload, rows of a batch, values of a column.
@@ -59,8 +59,10 @@ WAIT_SECONDS = 10.0
 FIRST_PAUSES, LAST_PAUSE = (0.05, 0.1, 0.2, 0.4, 0.8), 1.0
 
 # gRPC's names of statuses, by their numbers from 0 on ("Status codes and their use in gRPC").
+# `FINAL_STATUSES` are those with which the service refuses an upload for good: it was not taken.
 STATUSES = """OK CANCELLED UNKNOWN INVALID_ARGUMENT DEADLINE_EXCEEDED NOT_FOUND ALREADY_EXISTS PERMISSION_DENIED RESOURCE_EXHAUSTED
     FAILED_PRECONDITION ABORTED OUT_OF_RANGE UNIMPLEMENTED INTERNAL UNAVAILABLE DATA_LOSS UNAUTHENTICATED""".split()
+FINAL_STATUSES = (3, 5, 6, 9, 12)
 
 
 class Refused(Exception):
@@ -87,16 +89,40 @@ class Refused(Exception):
 
 
 class BadAnswer(Exception):
-    """What came back is no answer to the call. For a put, `id` is the upload's: it may have been taken, and can be put again with this
-    id.
+    """What came back is no answer to the call. For a put, `id` is the upload's."""
+
+    id: Optional[str] = None
+
+
+class Undecided(Exception):
+    """A put ended, and its upload may have been taken or may still be: the service refused it by a fault of its own, such as
+    `Unavailable`, `Down` or `JournalFull`, or the connection was lost, or what came back is no answer. Put it again with its `id`: it
+    counts once, however often it is put.
 
     >>> try:
     ...     ack = client.put("sales", rows)
-    ... except (felzoren.BadAnswer, OSError) as fault:
-    ...     ack = client.put("sales", rows, id=fault.id)
-    """
+    ... except felzoren.Undecided as undecided:
+    ...     ack = client.put("sales", rows, id=undecided.id)
 
-    id: Optional[str] = None
+    It is a `Refused`, a `BadAnswer` or an `OSError` too, of the class and with the attributes of `fault`, which says what happened."""
+
+    id: str
+    fault: Exception
+
+    def __str__(self) -> str:
+        return f"{self.fault}; the upload may have been taken, or may still be: put it again with id={self.id!r}, and it counts once"
+
+    def __reduce__(self) -> Tuple[Any, ...]:
+        return undecided, (self.fault, self.id)  # its class is made by each call, so pickle can't name it
+
+
+def undecided(fault, id):
+    """The fault of a put as one that is `Undecided` besides what it is, so that whoever catches it by its own class still does."""
+    kind = type(fault)
+    both = type(f"Undecided{kind.__name__}", (Undecided, kind), {})
+    found = both.__new__(both, *fault.args)
+    vars(found).update(vars(fault), id=id, fault=fault)
+    return found
 
 
 class Behind(Exception):
@@ -1729,7 +1755,11 @@ class Client:
 
     def call(self, method: str, messages: Iterable[bytes], read: Callable[[Iterator[bytes]], Result]) -> Result:
         """Makes a call, and returns what `read` makes of the messages of its answer."""
-        with contextlib.closing(self.open_connection()) as connection:
+        return self.call_over(self.open_connection(), method, messages, read)
+
+    def call_over(self, connection: Connection, method: str, messages: Iterable[bytes], read: Callable[[Iterator[bytes]], Result]) -> Result:
+        """Makes a call over an open connection, and closes it."""
+        with contextlib.closing(connection):
             connection.write(request(method, messages))
             return read(read_messages(connection.read, self.max_bytes))
 
@@ -1738,7 +1768,8 @@ class Client:
 
         `data` are rows (dicts, or sequences if a schema is given), a dict of columns, or a pandas DataFrame. `schema` is a `Schema`, or
         what makes one; without one it is inferred, see `infer_schema`. `id` identifies the upload: put again with the same id it counts
-        once, and gets the same version. An exception that leaves open whether it was taken has the upload's id as its `id`.
+        once, and gets the same version. An exception has the upload's id as its `id`, and is `Undecided` if it leaves open whether the
+        upload was taken.
 
         >>> client.put("sales", {"shop": ["Basel"], "sold": [40]}, schema={"shop": "utf8", "sold": "int64"})
         Ack(id='5b1c...', version=2)
@@ -1768,14 +1799,25 @@ class Client:
         check_upload(table, header, batches)
         messages = [bytes_field(1, descriptor(path, id.hex().encode())) + bytes_field(2, header)]
         messages += [data_message(head, b"", body) for head, body in batches]
-        try:
-            version = self.call("DoPut", messages, lambda answer: read_version(only(answer), id))
-        except (Refused, BadAnswer, OSError) as fault:
-            fault.id = id.hex()
-            raise
+        version = self.put_messages(messages, id)
         with self.lock:
             self.put_versions[table] = max(version, self.put_versions.get(table, 0))
         return Ack(id.hex(), version)
+
+    def put_messages(self, messages: Iterable[bytes], id: bytes) -> int:
+        """The version that the upload in these messages made. Exceptions have its id."""
+        try:
+            connection = self.open_connection()
+        except OSError as fault:
+            fault.id = id.hex()  # nothing was sent
+            raise
+        try:
+            return self.call_over(connection, "DoPut", messages, lambda answer: read_version(only(answer), id))
+        except (Refused, BadAnswer, OSError) as fault:
+            fault.id = id.hex()
+            if isinstance(fault, Refused) and fault.status in FINAL_STATUSES:
+                raise
+            raise undecided(fault, fault.id) from fault
 
     def get(self, table: str, version: Optional[int] = None, *, at_least: AtLeast = None, wait: float = WAIT_SECONDS) -> Table:
         """A version of a table, or the latest that the node has which is asked.

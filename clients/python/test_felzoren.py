@@ -950,6 +950,77 @@ def all_nullable(type):
     return type._replace(fields=[Field(it.name, all_nullable(it.type)) for it in type.fields])
 
 
+class LostPuts(unittest.TestCase):
+    """The exceptions of puts, and what they say that can be done."""
+
+    ADVICE = f"; the upload may have been taken, or may still be: put it again with id='{ID.hex()}', and it counts once"
+
+    def fault_of(self, client, kind):
+        """What a put raises."""
+        with self.assertRaises(kind) as raised:
+            client.put("t", [], {}, id=ID)
+        self.assertEqual(raised.exception.id, ID.hex())
+        return raised.exception
+
+    def test_refused_for_good(self):
+        for status, name in ((3, "BadPath"), (5, "NoTable"), (6, "Conflict"), (9, "SchemaMismatch"), (12, "Unsupported")):
+            fault = self.fault_of(client_of(answer([], status, name)), Refused)
+            self.assertEqual((type(fault), str(fault)), (Refused, f"{name} ({status} {felzoren.STATUSES[status]})"))
+
+    def test_refused_and_undecided(self):
+        names = {8: ("JournalFull", "SlotsSpent", "RoundsSpent", "OutOfMemory"), 13: ("Store", "Io"), 14: ("Unavailable", "Down")}
+        for status, name in [(status, name) for status, found in names.items() for name in found]:
+            for kind in (felzoren.Undecided, Refused):
+                fault = self.fault_of(client_of(answer([], status, name)), kind)
+                self.assertEqual((fault.status, fault.name), (status, name))
+                self.assertEqual(str(fault), f"{name} ({status} {felzoren.STATUSES[status]})" + self.ADVICE)
+                self.assertEqual((type(fault.fault), fault.__cause__), (Refused, fault.fault))
+        self.assertIsInstance(self.fault_of(client_of(answer([], 17, "New")), Refused), felzoren.Undecided)
+
+    def test_no_answer(self):
+        for text, why in ((b"", "the answer is cut short"), (answer([]), "an answer does not have exactly one message")):
+            for kind in (felzoren.Undecided, BadAnswer):
+                self.assertEqual(str(self.fault_of(client_of(text), kind)), why + self.ADVICE)
+
+    def test_lost_connections(self):
+        """Of any class of `OSError`, with its number."""
+        for lost in (ConnectionResetError(104, "reset by peer"), BrokenPipeError(32, "broken"), socket.timeout("late"), OSError("x"),
+                     OSError(5, "input/output"), socket.gaierror(-2, "unknown")):
+            reader = types.SimpleNamespace(read=mock.Mock(side_effect=lost))
+            for kind in (felzoren.Undecided, OSError, type(lost)):
+                fault = self.fault_of(felzoren.connect_files(reader, io.BytesIO()), kind)
+                self.assertEqual((fault.args, fault.errno, fault.strerror), (lost.args, lost.errno, lost.strerror))
+                self.assertEqual((str(fault), fault.fault), (str(lost) + self.ADVICE, lost))
+
+    def test_no_connection(self):
+        """Nothing was sent, so nothing is undecided."""
+        def refuse():
+            raise ConnectionRefusedError(111, "refused")
+
+        self.assertIs(type(self.fault_of(felzoren.Client(refuse), OSError)), ConnectionRefusedError)
+
+    def test_put_again(self):
+        client = client_of(answer([], 14, "Unavailable") + put_answer(ID, 7))
+        try:
+            client.put("t", [], {}, id=ID)
+        except felzoren.Undecided as undecided:
+            self.assertEqual(client.put("t", [], {}, id=undecided.id), (ID.hex(), 7))
+
+    def test_other_calls_are_not_undecided(self):
+        for method in ("GetFlightInfo", "GetSchema", "ListFlights", "DoGet"):
+            for text, kind in ((answer([], 14, "Down"), Refused), (b"", BadAnswer)):
+                with self.assertRaises(kind) as raised:
+                    CALLS[method](client_of(text))
+                self.assertIs(type(raised.exception), kind)
+
+    def test_sent_to_another_process(self):
+        for text in (answer([], 14, "Down"), b""):
+            fault = self.fault_of(client_of(text), felzoren.Undecided)
+            found = pickle.loads(pickle.dumps(fault))
+            self.assertIsInstance(found, (felzoren.Undecided, type(fault.fault)))
+            self.assertEqual((str(found), found.id, found.args), (str(fault), fault.id, fault.args))
+
+
 class OwnWrites(unittest.TestCase):
     """Calls that wait for a version, of a node that answers one question after the other with the next version."""
 
@@ -1205,7 +1276,7 @@ class Calls(unittest.TestCase):
             felzoren.connect([nobody, nobody], timeout=5).list()
         with self.assertRaises(ConnectionRefusedError) as raised:
             felzoren.connect(nobody).put("t", [], {"a": "int8"}, id=ID)
-        self.assertEqual(raised.exception.id, ID.hex())
+        self.assertEqual((raised.exception.id, type(raised.exception)), (ID.hex(), ConnectionRefusedError))
         for location in ("", "127.0.0.1", "127.0.0.1:x", "127.0.0.1:65536", "http://127.0.0.1:1", "a:1:2", [], ["127.0.0.1"]):
             self.assertRaises(ValueError, felzoren.connect, location)
         self.assertEqual(felzoren.parse_location("plain+tcp://[::1]:65535"), ("::1", 65535))
@@ -1248,14 +1319,17 @@ class Connections(unittest.TestCase):
             self.assertAlmostEqual(call[0][1], share, delta=1)
 
     def timed_out(self, serve):
-        done = threading.Event()
+        """The call ends in time, whatever the service does; its batches are made before the clock starts."""
+        schema, done = Schema({"a": "utf8"}), threading.Event()
+        batches = [felzoren.write_batch(schema, [["x" * 1_000_000] * 3], 3)] * 5
         with Listener(lambda connection: serve(connection, done)) as listener:
             began = time.monotonic()
             with self.assertRaises(socket.timeout) as raised:
-                felzoren.connect(listener.location, timeout=0.3).put("t", {"a": ["x" * 1_000_000] * 15}, id=ID)
+                felzoren.connect(listener.location, timeout=0.3).put_encoded("t", schema, batches, ID)
             self.assertLess(time.monotonic() - began, 2)
             self.assertEqual(raised.exception.id, ID.hex())
             self.assertIsInstance(raised.exception, OSError)
+            self.assertIsInstance(raised.exception, felzoren.Undecided)
             done.set()
 
     def test_timeouts(self):
@@ -1288,6 +1362,7 @@ class Connections(unittest.TestCase):
                 with self.assertRaises(Refused) as raised:
                     felzoren.connect(listener.location, timeout=5).put("t", {"a": ["x" * 1_000_000] * 15}, id=ID)
                 self.assertEqual((raised.exception.name, raised.exception.id), ("TooLarge", ID.hex()))
+                self.assertIsInstance(raised.exception, felzoren.Undecided)
                 done.set()
 
     def test_closed_connections(self):
@@ -1296,12 +1371,14 @@ class Connections(unittest.TestCase):
                 self.assertRaises(BadAnswer, felzoren.connect(listener.location, timeout=5).list)
 
         def reset(connection):
+            felzoren.read_exactly(connection.recv, 5)
             connection.setsockopt(socket.SOL_SOCKET, socket.SO_LINGER, struct.pack("ii", 1, 0))
 
         with Listener(reset) as listener:
             with self.assertRaises((ConnectionError, BadAnswer)) as raised:
                 felzoren.connect(listener.location, timeout=5).put("t", {"a": ["x" * 1_000_000] * 15}, id=ID)
             self.assertEqual(raised.exception.id, ID.hex())
+            self.assertIsInstance(raised.exception, felzoren.Undecided)
 
     def test_an_endless_answer(self):
         def serve(connection):
@@ -1350,7 +1427,8 @@ class Annotations(unittest.TestCase):
         self.assertGreater(count, 40)
 
     def test_each_attribute(self):
-        attributes = {"Refused": ("status", "name", "id"), "BadAnswer": ("id",), "Table": ("schema", "uploads", "num_bytes")}
+        attributes = {"Refused": ("status", "name", "id"), "BadAnswer": ("id",), "Undecided": ("id", "fault"),
+                      "Behind": ("table", "at_least", "version"), "Table": ("schema", "uploads", "num_bytes")}
         for name in felzoren.__all__:
             thing = getattr(felzoren, name)
             hints = typing.get_type_hints(thing) if isinstance(thing, type) else {}
