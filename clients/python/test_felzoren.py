@@ -1301,6 +1301,21 @@ class Examples(unittest.TestCase):
         self.assertGreater(examples, 20)
 
 
+    def test_the_readme(self):
+        """Its first example prints what the comments there show, and those on versions and on errors work after it."""
+        blocks = re.findall(r"^```python\n(.*?)^```$", (FOLDER / "README.md").read_text(encoding="utf-8"), re.MULTILINE | re.DOTALL)
+        first, versions, errors, views = blocks
+        with program() as location, contextlib.redirect_stdout(io.StringIO()) as printed:
+            connected = felzoren.connect(location, timeout=20)
+            space = {"numpy": types.SimpleNamespace(asarray=list), "rows": [{"day": datetime.date(2024, 3, 4), "shop": "Genf", "sold": 1}]}
+            with mock.patch.object(felzoren, "connect", lambda *words, **options: connected):
+                for block in (first, versions, errors, views):
+                    exec(block, space)
+            rows = connected.get("daily", at_least="mine").num_rows
+        self.assertEqual(printed.getvalue().splitlines(), re.findall(r"^print.*?  # (.*)$", first, re.MULTILINE))
+        self.assertEqual((space["numbers"], rows), ([40], 4))
+
+
 class IdOutput(doctest.OutputChecker):
     def check_output(self, want, got, flags):
         return super().check_output(re.sub(r"'[0-9a-f]+\.\.\.'", "'...'", want), got, flags)
