@@ -9,11 +9,11 @@ import sys
 from pathlib import Path
 
 from batches import bytes_of, spelled
-from calls_model import DESCRIPTOR, METHODS, PATH, SERVICE, Service, Unjudged
+from calls_model import METHODS, SERVICE, Service, Unjudged, data, descriptor, first_message, put_messages
 from tables import A, POOL, ROW, TEXTS, id_of, numbers, schema
 from tables_model import Upload, ticket_text, upload_of
 from toolbox import show_help
-from wire_model import END, bytes_field, encoding, frame, number_field
+from wire_model import END, bytes_field, frame, number_field
 
 CRATES = Path(__file__).resolve().parent.parent / "crates"
 DATA = CRATES / "call_stories" / "data"
@@ -38,10 +38,12 @@ ELSEWHERE = "The notation is that of rows.txt. Made by tools/calls.py, and not b
 
 
 class Story:
-    """The bytes by name, and a service. With `large`, services carry LargeBinary, LargeUtf8 and LargeList."""
+    """What stands after the commands so far. With `large`, services carry LargeBinary, LargeUtf8 and LargeList; with
+    `is_conditional` they know uploads that expect a version."""
 
-    def __init__(self, large=False):
-        self.named, self.large, self.service = {"empty": b""}, large, Service(0, [])
+    def __init__(self, large=False, is_conditional=False):
+        self.named, self.large, self.is_conditional = {"empty": b""}, large, is_conditional
+        self.service = Service(0, [], large, is_conditional)
 
     def bytes(self, words):
         name, _, digits = words.partition(" ")
@@ -52,7 +54,7 @@ class Story:
 
     def new(self, words):
         slots, *locations = words.split()
-        self.service = Service(int(slots), locations, self.large)
+        self.service = Service(int(slots), locations, self.large, self.is_conditional)
         return []
 
     def part(self, word):
@@ -99,9 +101,9 @@ def message_told(text):
     return f"message {spelled(text)}".rstrip()
 
 
-def told(lines):
+def told(lines, is_conditional=False):
     """The story of these lines, with the result of each command; a command that the model does not judge is left out."""
-    story, out = Story(), []
+    story, out = Story(is_conditional=is_conditional), []
     for line in lines:
         if line and not line.startswith("#"):
             try:
@@ -117,24 +119,9 @@ def told(lines):
 # ---- messages of clients
 
 
-def descriptor(*path, kind=PATH, command=b""):
-    return encoding([kind, command, list(path)], DESCRIPTOR)
-
-
-def data(header=b"", body=b"", said=None, metadata=b""):
-    """A FlightData message with those of a descriptor, header, metadata and body that are given."""
-    parts = [] if said is None else [bytes_field(1, said)]
-    parts += [bytes_field(number, held) for number, held in ((2, header), (3, metadata), (1000, body)) if held]
-    return b"".join(parts)
-
-
-def opening(upload):
-    return data(upload.schema_text, said=descriptor(upload.table.decode(), upload.id.hex()))
-
-
 def put(upload, name):
     """The commands that name the messages of a put, and the parts of its call by these names."""
-    messages = [opening(upload), *(data(*it) for it in upload.parts)]
+    messages = put_messages(upload)
     names = [f"{name}{place}" for place in range(len(messages))]
     return [f"bytes {it} {spelled(text)}" for it, text in zip(names, messages)], " ".join(["/DoPut", *names, "end"])
 
@@ -177,7 +164,7 @@ def rows():
 def faults():
     """Each refusal at least once, with what is left unread after it."""
     commands, whole = put(U, "u")
-    schema_message, batch = opening(U), data(*U.parts[0])
+    schema_message, batch = first_message(U), data(*U.parts[0])
     header, body = U.parts[0]
     names = ("t", U.id.hex())
     bad = {
@@ -223,7 +210,7 @@ def large():
     """Uploads at the limit of 16 MiB, and far beyond it."""
     texts = schema({**TEXTS["fields"][0], "type_type": "Binary"})
     half = Upload(b"t", id_of(1), texts, [(1, [[bytes(4_000_000)]])])
-    commands = [f"bytes opens {spelled(opening(half))}"]
+    commands = [f"bytes opens {spelled(first_message(half))}"]
     message = data(*half.parts[0])
     front = message.removesuffix(bytes(4_000_000))
     commands.append(f"bytes many {spelled(front)} | 4000000 00")
@@ -290,9 +277,9 @@ def asked_over_pipes():
     return b"".join(map(story.text, calls))
 
 
-def answered_over_pipes(text):
+def answered_over_pipes(text, is_conditional=False):
     """The frames of the answers to these calls."""
-    service, out = Service(1_000_000, LOCATIONS), b""
+    service, out = Service(1_000_000, LOCATIONS, is_conditional=is_conditional), b""
     while text:
         messages, status, name, text = service.serve(text)
         out += b"".join(frame(0, it) for it in messages) + frame(END, bytes([status]) + name.encode())

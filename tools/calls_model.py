@@ -3,11 +3,16 @@ is written from gRPC, "gRPC over HTTP2", from Arrow Flight ("Flight.proto", "Arr
 from the code. Uploads, tables and tickets are those of tables_model.py, messages those of wire_model.py.
 
 Headers are those of headers_model.py. The model does not judge which fault is reported of a header or message with several. A service
-with `large` takes uploads with LargeBinary, LargeUtf8 and LargeList, and longer ones."""
+with `large` takes uploads with LargeBinary, LargeUtf8 and LargeList, and longer ones.
+
+A service with `is_conditional` knows uploads that name the version of their table which they expect, as the third element of a put's
+path (conditional_model.py). The crates do not know them yet."""
 import headers_model
 from batch_model import Head, meaning
+from conditional_model import version_in
 from tables_model import MOST_BATCHES, Upload, answer, effective, is_table_name, latest, outcome, table_names, ticket_of, ticket_text, type_in
-from wire_model import DATA_MESSAGE, DESCRIPTOR, INFO, TICKET, BadFrame, Faults, bytes_field, encoding, frame_at, meant_inside, number_field
+from wire_model import DATA_MESSAGE, DESCRIPTOR, END, INFO, TICKET, BadFrame, Faults, bytes_field, encoding, frame, frame_at, meant_inside
+from wire_model import number_field
 
 SERVICE = b"/arrow.flight.protocol.FlightService/"
 METHODS = (b"GetFlightInfo", b"GetSchema", b"ListFlights", b"DoGet", b"DoPut")
@@ -19,7 +24,7 @@ STATUSES = {
     3: "Truncated BadFlag TooLong BadVarint BadKey BadWireType CutShort NotUtf8 OutOfBounds Version Endianness TooDeep TooManyFields "
     "BadHeader TooManyRows NodeCount BufferCount BufferRange NullCount OffsetsFall ChildShort BadPath BadDescriptor BadTicket NoSchema "
     "NoEnd MessageCount",
-    5: "NoTable", 6: "Conflict", 8: "SlotsSpent TooLarge TooManyBatches", 9: "SchemaMismatch",
+    5: "NoTable", 6: "Conflict", 8: "SlotsSpent TooLarge TooManyBatches", 9: "SchemaMismatch VersionMismatch",
     12: "Compressed Unsupported Dictionary CmdDescriptor Criteria NoCall", 14: "Unavailable",
 }
 STATUS_OF = {name: status for status, names in STATUSES.items() for name in names.split()}
@@ -132,18 +137,27 @@ def is_id(text):
     return len(text) == 32 and all(it in b"0123456789abcdef" for it in text)
 
 
-def opening(text, left, large):
-    """The table, the name and the schema of the first message."""
+def put_in(path, is_conditional):
+    """The table and the id that a put's path names, and the version that it expects, None if it names none; None for another path."""
+    if not 2 <= len(path) <= 2 + is_conditional or not is_table_name(path[0]) or not is_id(path[1]):
+        return None
+    expected = version_in(path[2]) if len(path) == 3 else None
+    is_put = len(path) == 2 or expected is not None
+    return (path[0], bytes.fromhex(path[1].decode()), expected) if is_put else None
+
+
+def opening(text, left, large, is_conditional):
+    """The table, the id, the version that is expected, and the schema, of the first message."""
     descriptor, header, _, _ = meant(text, DATA_MESSAGE, left)
     if descriptor is None:
         raise Refusal("BadDescriptor", left)
-    path = path_in(descriptor, left)
-    if len(path) != 2 or not is_table_name(path[0]) or not is_id(path[1]):
+    named = put_in(path_in(descriptor, left), is_conditional)
+    if named is None:
         raise Refusal("BadDescriptor", left)
     kind, schema = header_of(header, left, large) if header else ("batch", None)
     if kind == "batch":
         raise Refusal("NoSchema", left)
-    return path[0], bytes.fromhex(path[1].decode()), schema
+    return *named, schema
 
 
 def addition(schema, batches, text, left, large):
@@ -164,17 +178,17 @@ def addition(schema, batches, text, left, large):
     return [(head.length, columns)]
 
 
-def upload_asked(text, large):
+def upload_asked(text, large, is_conditional):
     """The upload of the messages, and the text after their end."""
     is_end, message, text = next_frame(text)
     if is_end:
         raise Refusal("NoSchema", text)
-    table, name, schema = opening(message, text, large)
+    table, name, expected, schema = opening(message, text, large, is_conditional)
     batches = []
     for count in range(2, MOST_FRAMES + 2):
         is_end, message, text = next_frame(text)
         if is_end:
-            upload = Upload(table, name, schema, batches)
+            upload = Upload(table, name, schema, batches, expected)
             if not upload.is_taken(large):
                 raise Refusal("TooLarge", text)
             return upload, text
@@ -184,7 +198,7 @@ def upload_asked(text, large):
     raise AssertionError
 
 
-def call_asked(text, large):
+def call_asked(text, large, is_conditional):
     """The method, what it asks for, and the text after the call."""
     is_end, path, text = next_frame(text)
     if is_end or not path.startswith(SERVICE):
@@ -192,7 +206,7 @@ def call_asked(text, large):
     method = path.removeprefix(SERVICE)
     if method not in METHODS:
         raise Refusal("NoCall", text)
-    return method, *(upload_asked(text, large) if method == b"DoPut" else one_message(method, text))
+    return method, *(upload_asked(text, large, is_conditional) if method == b"DoPut" else one_message(method, text))
 
 
 # ---- a service, and its answers
@@ -203,10 +217,12 @@ def encapsulated(text):
 
 
 class Service:
-    """The uploads that were taken, in order; how many it takes; its locations; and the ids of the uploads that were handed over."""
+    """The uploads that were taken, in order; how many it takes; its locations; the ids of the uploads that were handed over; and whether
+    it knows uploads that expect a version."""
 
-    def __init__(self, slots, locations, large=False):
-        self.slots, self.locations, self.uploads, self.handed, self.large = slots, locations, [], [], large
+    def __init__(self, slots, locations, large=False, is_conditional=False):
+        self.slots, self.locations, self.uploads, self.handed = slots, locations, [], []
+        self.large, self.is_conditional = large, is_conditional
 
     def info(self, table, left):
         known = latest(self.uploads, table)
@@ -237,7 +253,8 @@ class Service:
             self.uploads.append(upload)
         told = outcome(self.uploads, upload)
         if not told.startswith("Applied"):
-            raise Refusal(told, left)
+            # which version it was is not told
+            raise Refusal(told.partition("(")[0], left)
         version = 1 + [it.id for it in effective(self.uploads, upload.table)].index(upload.id)
         return bytes_field(1, bytes_field(1, upload.id) + number_field(2, version))
 
@@ -253,7 +270,36 @@ class Service:
     def serve(self, text):
         """The messages of the answer, its status and text, and what is left."""
         try:
-            method, asked, left = call_asked(text, self.large)
+            method, asked, left = call_asked(text, self.large, self.is_conditional)
             return self.messages(method, asked, left), 0, "", left
         except Refusal as it:
             return [], STATUS_OF[it.name], it.name, it.left
+
+
+# ---- what clients write
+
+
+def descriptor(*path, kind=PATH, command=b""):
+    return encoding([kind, command, list(path)], DESCRIPTOR)
+
+
+def data(header=b"", body=b"", said=None, metadata=b""):
+    """A FlightData message with those of a descriptor, header, metadata and body that are given."""
+    parts = [] if said is None else [bytes_field(1, said)]
+    parts += [bytes_field(number, held) for number, held in ((2, header), (3, metadata), (1000, body)) if held]
+    return b"".join(parts)
+
+
+def first_message(upload):
+    """The first message of a put. The version that is expected is the third element of its path, if there is one."""
+    expected = [] if upload.expected is None else [str(upload.expected)]
+    return data(upload.schema_text, said=descriptor(upload.table.decode(), upload.id.hex(), *expected))
+
+
+def put_messages(upload):
+    return [first_message(upload), *(data(*it) for it in upload.parts)]
+
+
+def call_text(method, messages):
+    """The frames of a call."""
+    return b"".join([frame(0, SERVICE + method), *(frame(0, it) for it in messages), frame(END, b"")])

@@ -1,18 +1,20 @@
 """A model of what `flightd` prints for a file: whether a recorded run is lawful, and if not why; the result of each event of a
-schedule; each of a node's records; and the acceptor's answers in a conversation. It is written from Lamport, "Paxos Made Simple",
-section 2, from RFC 8259 and from docs/FORMATS.md, and not from the code. Messages and records are those of paxos_model.py, nodes those
-of runs_model.py. Each function returns the status, the output, and a list of the texts that standard error may have. With `is_ranged` it
-reads promises of all slots from a first one on too (ranged_model.py), which the program skips yet."""
+schedule; the result of each call of a script; each of a node's records; and the acceptor's answers in a conversation. It is written from
+Lamport, "Paxos Made Simple", section 2, from RFC 8259 and from docs/FORMATS.md, and not from the code. Messages and records are those of
+paxos_model.py, nodes those of runs_model.py, calls those of calls_model.py. Each function returns the status, the output, and a list of
+the texts that standard error may have. With `is_ranged` it reads promises of all slots from a first one on too (ranged_model.py), and with
+`is_conditional` the versions that uploads expect (conditional_model.py), both of which the program skips yet."""
 import itertools
 import json
 import re
 
-from calls_model import Unjudged
+from calls_model import Service, Unjudged, call_text, descriptor, put_messages
+from conditional_model import MOST_EXPECTED
 from paxos_model import HEAD, IN_MESSAGE, IN_RECORD, MESSAGE, RECORD, is_majority, is_safe, parts_of, promisers, was_proposed
 from ranged_model import Acceptor, first_breach, message_parts, parts_in, record_parts, said_of, says, shown_message, shown_record, text_of
-from runs_model import Run
-from tables_model import MOST_BATCHES, is_table_name
-from wire_model import MAX_FRAME_PAYLOAD, BadFrame, Faults, frame, frame_at
+from runs_model import Run, Upload
+from tables_model import MOST_BATCHES, is_table_name, ticket_of, ticket_text, upload_of
+from wire_model import INFO, MAX_FRAME_PAYLOAD, BadFrame, Faults, bytes_field, frame, frame_at, meant_inside, values_by_number
 
 MOST_SLOTS, MOST_MEMBERS, MOST_TICK, MOST_LEVELS = 1_000_000, 7, 255, 60
 
@@ -275,17 +277,26 @@ def acceptor(text, is_ranged=False):
 # ---- schedules
 
 
-def upload_at(place, value):
-    """An upload of a schedule, in the form of runs_model.py."""
+def upload_in(value, is_conditional):
+    """An upload of a schedule or a script, in the form of runs_model.py; None if it is none."""
     table, id, values, name = (member(value, it) for it in ("table", "id", "values", "name"))
     name = "a" if isinstance(value, dict) and "name" not in value else name
     is_one = isinstance(table, str) and is_table_name(table.encode()) and isinstance(id, str) and re.fullmatch("[0-9a-fA-F]{32}", id)
     is_one = is_one and isinstance(values, list) and len(values) <= MOST_BATCHES and isinstance(name, str)
     batches = values if is_one else []
     is_one = is_one and all(isinstance(it, list) for it in batches)
+    expects = {"expected": value["expected"]} if is_conditional and is_one and "expected" in value else {}
+    is_one = is_one and all(is_whole(it, 0, MOST_EXPECTED) for it in expects.values())
     if not is_one or not all(cell is None or is_whole(cell, -128, 127) for it in batches for cell in it):
+        return None
+    return {"table": table, "id": id, "values": values, "name": name} | expects
+
+
+def upload_at(place, value, is_conditional):
+    found = upload_in(value, is_conditional)
+    if found is None:
         raise Flaw(f"upload {place} of `uploads` is not a valid upload")
-    return {"table": table, "id": id, "values": values, "name": name}
+    return found
 
 
 MOST = 2**64 - 1
@@ -308,7 +319,7 @@ def event_at(place, value, uploads):
     return value
 
 
-def schedule_in(file, is_ranged):
+def schedule_in(file, is_ranged=False, is_conditional=False):
     value = json_of(file)
     members, slots = members_in(value), member(value, "slot_limit")
     if not is_whole(slots, 1, MOST_SLOTS):
@@ -317,18 +328,80 @@ def schedule_in(file, is_ranged):
     if not isinstance(ranged, bool):
         raise Flaw("`ranged` is there, and is neither true nor false")
     uploads, events = array_in(value, "uploads"), array_in(value, "events")
-    uploads = [upload_at(place, it) for place, it in enumerate(uploads)]
+    uploads = [upload_at(place, it, is_conditional) for place, it in enumerate(uploads)]
     events = [event_at(place, it, len(uploads)) for place, it in enumerate(events)]
     return {"members": members, "slot_limit": slots, "ranged": ranged, "uploads": uploads, "events": events}
 
 
-def replay(file, is_ranged=False):
+def replay(file, is_ranged=False, is_conditional=False):
     try:
-        schedule = schedule_in(file, is_ranged)
+        schedule = schedule_in(file, is_ranged, is_conditional)
     except Flaw as flaw:
         return 1, "", [f"flightd: BadSchedule\nflightd: {it}\n" for it in flaw.lines]
     run = Run(schedule)
     return 0, "".join(f"{place} {run.play(event)}\n" for place, event in enumerate(schedule["events"])), [""]
+
+
+# ---- scripts
+
+CALLED = {"put": ["upload"], "get": ["table", "version"], "info": ["table"]}
+FIRST_PORT = 42_000
+
+
+def call_at(place, value, nodes, is_conditional):
+    """A call of a script: its word, the node, and what it takes; an upload in the form of runs_model.py."""
+    is_one = isinstance(value, list) and len(value) > 1 and isinstance(value[0], str) and value[0] in CALLED
+    is_one = is_one and is_whole(value[1], 0, nodes - 1)
+    kinds, taken = (CALLED[value[0]], value[2:]) if is_one else ([], [])
+    if kinds == ["upload"]:
+        taken = [upload_in(it, is_conditional) for it in taken]
+    are_wanted = (it is not None if kind == "upload" else is_wanted(kind, it, 0) for kind, it in zip(kinds, taken))
+    if not is_one or len(taken) != len(kinds) or not all(are_wanted):
+        raise Flaw(f"call {place} of `calls` is not an array of a word, a node's number and that word's arguments")
+    return [*value[:2], *taken]
+
+
+def script_in(file, is_conditional=False):
+    value = json_of(file)
+    nodes = member(value, "nodes")
+    if not is_whole(nodes, 3, 5) or nodes == 4:
+        raise Flaw("`nodes` is missing or neither 3 nor 5")
+    calls = array_in(value, "calls")
+    return {"nodes": nodes, "calls": [call_at(place, it, nodes, is_conditional) for place, it in enumerate(calls)]}
+
+
+def put_told(service, said):
+    upload = Upload(said["table"], said["id"], said["name"], said["values"], said.get("expected"))
+    messages, status, name, _ = service.serve(call_text(b"DoPut", put_messages(upload_of(upload.text, is_conditional=service.is_conditional))))
+    return f"status {status} {name}" if status else f"put {values_by_number(values_by_number(messages[0])[1])[2]}"
+
+
+def get_told(service, table, version):
+    messages, status, name, _ = service.serve(call_text(b"DoGet", [bytes_field(1, ticket_text(table.encode(), version))]))
+    return f"status {status} {name}" if status else f"get {b''.join(frame(0, it) for it in messages).hex()}"
+
+
+def info_told(service, table):
+    messages, status, name, _ = service.serve(call_text(b"GetFlightInfo", [descriptor(table)]))
+    if status:
+        return f"status {status} {name}"
+    (ticket, locations), = meant_inside(messages, INFO, set())[2]
+    return f"info {ticket_of(ticket[0])[1]} {len(locations)}"
+
+
+TOLD = {"put": put_told, "get": get_told, "info": info_told}
+
+
+def script(file, is_conditional=False):
+    """The lines of a script's calls, as a cluster answers them each of whose nodes knows all that was put before."""
+    try:
+        said = script_in(file, is_conditional)
+    except Flaw as flaw:
+        return 1, "", [f"flightd: BadScript\nflightd: {it}\n" for it in flaw.lines]
+    ports = range(FIRST_PORT, FIRST_PORT + said["nodes"])
+    service = Service(MOST_SLOTS, [f"plain+tcp://127.0.0.1:{it}" for it in ports], is_conditional=is_conditional)
+    lines = [f"{place} {TOLD[word](service, *taken)}" for place, (word, _, *taken) in enumerate(said["calls"])]
+    return 0, "".join(f"{it}\n" for it in [*lines, "receipts ok"]), [""]
 
 
 COMMANDS = {"audit": audit, "audit --explain": lambda file: audit(file, True), "replay": replay, "records": records, "acceptor": acceptor}

@@ -11,7 +11,9 @@ docs/FORMATS.md, and not from the code. It keeps whole lists: every message that
     tools/runs_model.py --write   writes the lines of those schedules
 
 A schedule may have a member `ranged`, which the program skips yet: with `true` a node asks for a promise of all slots from a first one
-on, and a majority's promises then serve for one upload after another (ranged_model.py; tools/ranged.py checks such runs).
+on, and a majority's promises then serve for one upload after another (ranged_model.py; tools/ranged.py checks such runs). Of its uploads
+each may have a member `expected`, which the program skips too: the version of its table that it expects (conditional_model.py;
+tools/conditional.py checks such runs).
 
 A value is its bytes, none for a no-op; a ballot is a pair of its round and its node; a message is a dictionary as in ranged_model.py."""
 import functools
@@ -27,6 +29,7 @@ sys.path.append(str(TOP / "crates" / "flatbuf_meta" / "vectors"))
 import canonical
 from batch_model import canonical as canonical_batch
 from batch_model import type_of
+from conditional_model import Agreed, condition_text
 from paxos_model import MAX_ROUND, is_majority
 from ranged_model import Acceptor, Attempt, first_breach, message
 from toolbox import show_help
@@ -59,14 +62,16 @@ def batch_texts(values):
 
 
 class Upload:
-    """An upload: its table, its id, the name of its column, its batches as headers and bodies, and its encoding."""
+    """An upload: its table, its id, the name of its column, its batches as headers and bodies, what it expects, and its encoding."""
 
-    def __init__(self, table, id, name, batches):
-        self.table, self.id, self.name = table, bytes.fromhex(id), name
+    def __init__(self, table, id, name, batches, expected=None):
+        self.table, self.id, self.name, self.expected = table, bytes.fromhex(id), name, expected
+        # each has one column of Int8, so that shapes differ in its name alone
+        self.shape = name
         self.batches = [batch_texts(it) for it in batches]
         parts = [bytes_field(1, table.encode()), bytes_field(2, self.id), bytes_field(3, schema_text(name))]
         parts += [bytes_field(4, bytes_field(1, header) + (bytes_field(2, body) if body else b"")) for header, body in self.batches]
-        self.text = b"".join(parts)
+        self.text = b"".join(parts) + condition_text(expected)
 
     def messages(self):
         """The messages with which it is served."""
@@ -82,22 +87,20 @@ def answer(uploads):
     return b"".join(frame(0, it) for it in messages)
 
 
+# How the name of an outcome is printed.
+OUTCOMES = {"Applied": "applied", "SchemaMismatch": "mismatch", "VersionMismatch": "versionmismatch", "Conflict": "conflict",
+            "Unknown": "unknown"}
+
+
 def effective(uploads, table):
-    """The uploads to the table that are the first with their ids in the whole list and have the shape of the first of them."""
-    firsts = [it for place, it in enumerate(uploads) if it.id not in {earlier.id for earlier in uploads[:place]}]
-    of_table = [it for it in firsts if it.table == table]
-    return [it for it in of_table if it.name == of_table[0].name]
+    """The uploads to the table that count, in their order."""
+    return Agreed(uploads).effective(table)
 
 
 def outcome(uploads, upload):
-    """The outcome of an upload, given these uploads."""
-    named = [it for it in uploads if it.id == upload.id]
-    if not named:
-        return "unknown"
-    if named[0].text != upload.text:
-        return "conflict"
-    ids = [it.id for it in effective(uploads, upload.table)]
-    return f"applied {1 + ids.index(upload.id)}" if upload.id in ids else "mismatch"
+    """The outcome of an upload, given these uploads, with the number of a version if it has one."""
+    name, *version = Agreed(uploads).outcome(upload)
+    return " ".join([OUTCOMES[name], *map(str, version)])
 
 
 # ---- what was learned from a list of messages
@@ -269,7 +272,7 @@ class Run:
     def __init__(self, schedule, kinds=None):
         self.members, self.slot_limit, self.is_ranged = schedule["members"], schedule["slot_limit"], schedule.get("ranged", False)
         self.kinds = kinds or [Node] * self.members
-        self.uploads = [Upload(it["table"], it["id"], it.get("name", "a"), it["values"]) for it in schedule["uploads"]]
+        self.uploads = [Upload(it["table"], it["id"], it.get("name", "a"), it["values"], it.get("expected")) for it in schedule["uploads"]]
         self.by_text = {it.text: it for it in self.uploads}
         self.nodes = {it: self.kinds[it](self, it, []) for it in range(self.members)}
         self.kept = {it: [] for it in range(self.members)}
@@ -409,13 +412,14 @@ class Tables:
 # ---- random schedules
 
 
-def drawn(seed):
-    """A random run of some uploads, of which two have one id, one is to another table and one has another shape. Its events are drawn
-    as it goes on: most are deliveries of messages that the node has not had, some of others, and few are ticks."""
+def drawn(seed, conditions=6 * (None,)):
+    """A random run of some uploads, of which two have one id, one is to another table and one has another shape; `conditions` are what they
+    expect. Its events are drawn as it goes on: most are deliveries of messages that the node has not had, some of others, and few are ticks."""
     draw = random.Random(seed)
     members = draw.choice((1, 2, 3, 3, 3, 3, 4, 5))
     ids = [f"{it:032x}" for it in (1, 2, 3, 1, 4, 5)]
     uploads = [{"table": "u" if it == 4 else "t", "id": id, "values": [[it]], "name": "ab"[it == 5]} for it, id in enumerate(ids)]
+    uploads = [it | {"expected": expected} for it, expected in zip(uploads, conditions)]
     run = Run({"members": members, "slot_limit": draw.choice((2, 4, 8)), "uploads": uploads})
     new, count = set(), 0
     for _ in range(draw.choice((60, 120, 240))):

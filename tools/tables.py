@@ -30,13 +30,14 @@ def md5(text):
 
 
 class Story:
-    """The bytes by name, and the values that were taken. With `large`, LargeBinary, LargeUtf8 and LargeList are carried."""
+    """The bytes by name, and the values that were taken. With `large`, LargeBinary, LargeUtf8 and LargeList are carried; with
+    `is_conditional` bytes may be of an upload that expects a version."""
 
-    def __init__(self, large=False):
-        self.named, self.values, self.large = {}, [], large
+    def __init__(self, large=False, is_conditional=False):
+        self.named, self.values, self.large, self.is_conditional = {}, [], large, is_conditional
 
     def known(self, text):
-        return known(text, self.large)
+        return known(text, self.large, self.is_conditional)
 
     def uploads(self):
         return [it for it in map(self.known, self.values) if it]
@@ -107,29 +108,30 @@ class Story:
 KNOWN = {}
 
 
-def known(text, large=False):
+def known(text, large=False, is_conditional=False):
     """The upload that the bytes encode, which is decoded once."""
-    if (text, large) not in KNOWN:
-        KNOWN[text, large] = upload_of(text, large)
-    return KNOWN[text, large]
+    if (text, large, is_conditional) not in KNOWN:
+        KNOWN[text, large, is_conditional] = upload_of(text, large, is_conditional)
+    return KNOWN[text, large, is_conditional]
 
 
 def changed(text, place, byte):
     return text[:place] + bytes([byte]) + text[place + 1 :]
 
 
-def told_of(it):
-    """The line about an upload, or that there is none."""
-    if it is None:
+def told_of(upload):
+    """The line about an upload, None if bytes are none."""
+    if upload is None:
         return ["NotAnUpload"]
-    columns = "".join(" " + column["name"] for column in it.schema["fields"])
-    told = f"{it.table.decode()} {it.id.hex()}, schema of {len(it.schema_text)} bytes:{columns}"
-    return [f"{told}, batches {len(it.batches)}"]
+    columns = "".join(" " + column["name"] for column in upload.schema["fields"])
+    told = f"{upload.table.decode()} {upload.id.hex()}, schema of {len(upload.schema_text)} bytes:{columns}"
+    expects = "" if upload.expected is None else f", expects {upload.expected}"
+    return [f"{told}, batches {len(upload.batches)}{expects}"]
 
 
-def told(lines):
+def told(lines, is_conditional=False):
     """The lines of a story, each command with its result."""
-    story, out = Story(), []
+    story, out = Story(is_conditional=is_conditional), []
     for line in lines:
         if not line.startswith("  "):
             out.append(line)

@@ -5,12 +5,14 @@ versions there are and what is answered.
 
 Bytes are an upload if writing what is read in them gives the same bytes; so a reader that accepts too much does no harm. The model
 does not check the limits of schemas, and expects columns of the supported types. With `large` these are also LargeBinary, LargeUtf8
-and LargeList, and every upload may be longer."""
+and LargeList, and every upload may be longer. With `is_conditional` it also reads uploads that name the version of their table which
+they expect (conditional_model.py); to the crates these are no uploads yet."""
 import re
 
 from batch_model import Head, Type, meaning
 from batch_model import canonical as written_batch
 from carried_types import canonical, make, names_of_types
+from conditional_model import Agreed, condition_in, condition_text, may_be_expected
 from wire_model import Faults, bytes_field, fields_of, frame, number_field
 
 MOST_BATCHES, MOST_SERVED = 1024, 1 << 22
@@ -137,15 +139,16 @@ def bare(schema):
 
 
 class Upload:
-    """An upload: its table, its id, its schema, and its batches, each a number of rows and a list of cells for each column."""
+    """An upload: its table, its id, its schema, its batches, each a number of rows and a list of cells for each column, and the version
+    of its table that it expects, None if it has no condition."""
 
-    def __init__(self, table, id, schema, batches):
-        self.table, self.id, self.schema, self.batches = table, id, schema, batches
+    def __init__(self, table, id, schema, batches, expected=None):
+        self.table, self.id, self.schema, self.batches, self.expected = table, id, schema, batches, expected
         self.schema_text, self.shape = schema_text(schema), schema_text(bare(schema))
         self.parts = [self.written(rows, columns) for rows, columns in batches]
         fields = [bytes_field(1, header) + (bytes_field(2, body) if body else b"") for header, body in self.parts]
         front = [bytes_field(1, table), bytes_field(2, id), bytes_field(3, self.schema_text)]
-        self.text = b"".join(front + [bytes_field(4, it) for it in fields])
+        self.text = b"".join([*front, *(bytes_field(4, it) for it in fields), condition_text(expected)])
 
     def written(self, rows, columns):
         """The header and the body of a batch."""
@@ -161,12 +164,17 @@ class Upload:
         served = [bytes_field(2, header) + name + (bytes_field(1000, body) if body else b"") for header, body in self.parts]
         return served or [name]
 
-    def is_taken(self, large=False):
+    def refusals(self, large=False):
+        """The names of what stands against its being made, of which the first is reported. Batches are expected to be of the schema."""
         served = [bytes_field(2, self.schema_text), *self.messages()]
-        return (
-            is_table_name(self.table) and len(self.id) == 16 and len(self.batches) <= MOST_BATCHES
-            and len(self.text) <= (MOST_BYTES_WITH_LARGE if large else MOST_BYTES) and all(len(it) <= MOST_SERVED for it in served)
-        )
+        most = MOST_BYTES_WITH_LARGE if large else MOST_BYTES
+        is_large = len(self.text) > most or any(len(it) > MOST_SERVED for it in served)
+        faults = {"BadExpected": not may_be_expected(self.expected), "BadTable": not is_table_name(self.table)}
+        faults |= {"TooManyBatches": len(self.batches) > MOST_BATCHES, "TooLarge": is_large}
+        return [name for name, stands in faults.items() if stands]
+
+    def is_taken(self, large=False):
+        return len(self.id) == 16 and not self.refusals(large)
 
 
 def is_table_name(name):
@@ -182,13 +190,14 @@ def batch_at(schema, text):
     return head.length, columns
 
 
-def upload_of(text, large=False):
+def upload_of(text, large=False, is_conditional=False):
     """The upload that the bytes encode, None if they are no upload."""
     try:
-        fields = [(number, held) for number, kind, held in fields_of(text) if kind == 2]
+        every = fields_of(text)
+        fields = [(number, held) for number, kind, held in every if kind == 2]
         table, id, header = (dict(fields)[number] for number in (1, 2, 3))
-        schema = schema_at(header, large)
-        upload = Upload(table, id, schema, [batch_at(schema, held) for number, held in fields if number == 4])
+        schema, expected = schema_at(header, large), condition_in(every) if is_conditional else None
+        upload = Upload(table, id, schema, [batch_at(schema, held) for number, held in fields if number == 4], expected)
     except (NoUpload, Faults, make.Refused, LookupError, TypeError, ValueError, OverflowError):
         return None
     return upload if upload.is_taken(large) and upload.text == text else None
@@ -216,25 +225,15 @@ def ticket_of(text):
 # ---- tables, from whole lists of uploads
 
 
-def first_with_id(uploads):
-    """The uploads that are the first with their ids."""
-    return [it for place, it in enumerate(uploads) if it.id not in {earlier.id for earlier in uploads[:place]}]
-
-
 def effective(uploads, table):
-    """The uploads to the table that are the first with their ids in the whole list and have the shape of the first of them."""
-    to_table = [it for it in first_with_id(uploads) if it.table == table]
-    return [it for it in to_table if it.shape == to_table[0].shape]
+    """The uploads to the table that count, in their order."""
+    return Agreed(uploads).effective(table)
 
 
 def outcome(uploads, upload):
-    named = [it for it in uploads if it.id == upload.id]
-    if not named:
-        return "Unknown"
-    if named[0].text != upload.text:
-        return "Conflict"
-    ids = [it.id for it in effective(uploads, upload.table)]
-    return f"Applied({1 + ids.index(upload.id)})" if upload.id in ids else "SchemaMismatch"
+    """What became of an upload, given these: a name, with the number of a version in brackets if it has one."""
+    name, *version = Agreed(uploads).outcome(upload)
+    return f"{name}({version[0]})" if version else name
 
 
 def answer(uploads, table, version):

@@ -5,7 +5,8 @@ import json
 
 from batch_model import lay_out, type_of
 from batches import FLAT, NESTED, WAYS, batch_of, bytes_of, drawn, read_line, spelled
-from calls import LOCATIONS, C, U, W, X, Z, data, descriptor, opening
+from calls import LOCATIONS, C, U, W, X, Z
+from calls_model import call_text, descriptor, first_message, put_messages
 from changes import bytes_changed, fields_changed, frames_changed, json_changed, list_changed, places_changed, signed, value_changed
 from headers_model import MOST_BUFFERS, MOST_NODES, canonical, header_of, written
 from runs import spelled as packed
@@ -13,7 +14,7 @@ from runs_model import Upload as RunUpload
 from tables import POOL
 from tables_model import Upload, ticket_text, type_in, upload_of
 from tellers.batch import field_of
-from wire_model import END, Faults, bytes_field, frame
+from wire_model import Faults, bytes_field
 
 ID = "000102030405060708090a0b0c0d0e0f"
 TYPE_WORDS = FLAT + NESTED
@@ -227,16 +228,10 @@ class TableTarget(Target):
 # ---- calls
 
 
-def frames(*payloads):
-    """The frames of a call, with its end."""
-    return b"".join(frame(0, it) for it in payloads) + frame(END, b"")
-
-
-PATH = b"/arrow.flight.protocol.FlightService/"
-PUTS = {name: frames(PATH + b"DoPut", opening(it), *(data(*part) for part in it.parts)) for name, it in zip("ucxwz", (U, C, X, W, Z))}
+PUTS = {name: call_text(b"DoPut", put_messages(it)) for name, it in zip("ucxwz", (U, C, X, W, Z))}
 QUESTIONS = {
-    "get": frames(PATH + b"DoGet", bytes_field(1, ticket_text(b"t", 1))), "info": frames(PATH + b"GetFlightInfo", descriptor("t")),
-    "schema": frames(PATH + b"GetSchema", descriptor("t")), "list": frames(PATH + b"ListFlights", b""),
+    "get": call_text(b"DoGet", [bytes_field(1, ticket_text(b"t", 1))]), "info": call_text(b"GetFlightInfo", [descriptor("t")]),
+    "schema": call_text(b"GetSchema", [descriptor("t")]), "list": call_text(b"ListFlights", [b""]),
 }
 CALLS = [*PUTS.values(), *QUESTIONS.values()]
 
@@ -244,7 +239,7 @@ CALLS = [*PUTS.values(), *QUESTIONS.values()]
 def message_changed(draw, message):
     """Another message of a call: sometimes one that opens an upload of random columns."""
     upload = upload_of(upload_drawn(draw)) if draw.random() < 0.15 else None
-    return opening(upload) if upload else fields_changed(draw, message, draw.choice((bytes_changed, places_changed)))
+    return first_message(upload) if upload else fields_changed(draw, message, draw.choice((bytes_changed, places_changed)))
 
 
 def call_changed(draw, text, other):
