@@ -277,10 +277,7 @@ const FLAWS: [(&[u8], &[u8]); 8] = [
     (b"{\"nodes\":3}\xff", b"the file is not UTF-8"),
     (b"{\"nodes\":3", b"the file is not one JSON value"),
     (b"[]", b"`nodes` is missing or neither 3 nor 5"),
-    (
-        b"{\"nodes\":4}",
-        b"`nodes` is missing or neither 3 nor 5",
-    ),
+    (b"{\"nodes\":4}", b"`nodes` is missing or neither 3 nor 5"),
     (
         b"{\"nodes\":3,\"calls\":{}}",
         b"`calls` is missing or not an array",
