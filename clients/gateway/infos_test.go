@@ -31,7 +31,8 @@ func ours(port int) string  { return location(fmt.Sprintf("grpc+tcp://127.0.0.1:
 
 func TestLocationsOfAnInfo(t *testing.T) {
 	ticket := part(1, part(1, "\x0a\x05sales\x10\x03"))
-	before := part(1, "\xff\xff\xff\xff schema") + part(2, number(1, 1)+part(3, "sales"))
+	// The descriptor is that of FORMATS, "Arrow Flight messages".
+	before := part(1, "\xff\xff\xff\xff schema") + part(2, "\x08\x01\x1a\x05sales")
 	after := number(4, 7) + number(5, 1<<63) + number(6, 1)
 	for name, row := range map[string]struct{ endpoint, want string }{
 		"the answering node's first": {
@@ -42,6 +43,7 @@ func TestLocationsOfAnInfo(t *testing.T) {
 			ticket + ours(9001) + plain(41999) + ours(9002)},
 		"none of the answering node": {ticket + plain(42002) + plain(42000), ticket + ours(9002) + ours(9000)},
 		"none at all":                {ticket, ticket},
+		"none, as FORMATS has it":    {"\x0a\x06\x0a\x04p-17", "\x0a\x06\x0a\x04p-17"},
 		"other fields in their places": {
 			plain(42000) + number(9, 1) + ticket + plain(42001) + part(77, "more"),
 			ours(9001) + number(9, 1) + ticket + ours(9000) + part(77, "more")},

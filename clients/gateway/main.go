@@ -7,6 +7,7 @@ import (
 	"io"
 	"os"
 	"os/signal"
+	"runtime/debug"
 	"syscall"
 
 	"google.golang.org/grpc/grpclog"
@@ -15,8 +16,15 @@ import (
 func main() {
 	// What grpc says of single connections is of no use to whoever runs the gateway, and has no bound.
 	grpclog.SetLoggerV2(grpclog.NewLoggerV2(io.Discard, io.Discard, io.Discard))
+	if os.Getenv("GOGC") == "" {
+		debug.SetGCPercent(garbagePercent)
+	}
 	os.Exit(run(os.Args[1:], os.Stdout, os.Stderr))
 }
+
+// garbagePercent is how much memory of messages that were sent may come, in percent of what is in use, before Go
+// collects it. With Go's own 100 a large get took a quarter more of the processor, and a few MiB less.
+const garbagePercent = 200
 
 // run does what the words ask for, and returns the status of the process.
 func run(words []string, stdout, stderr io.Writer) int {
