@@ -1,4 +1,5 @@
-"""A model of promises that bind all slots from a first one on: what they add to paxos_model.py. No crate has them yet.
+"""A model of promises that bind all slots from a first one on: what they add to paxos_model.py. Of the crates `acceptor` alone has a
+call for them.
 
 A leader needs one promise of a majority for all slots to come: it sends one Prepare for infinitely many instances, and an acceptor
 answers for all of them at once (Lamport, "Paxos Made Simple", section 3). So Prepare and Promise have a second form, PrepareFrom and

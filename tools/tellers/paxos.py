@@ -79,6 +79,15 @@ def reply_line(answer):
     return "accepts" if kind == "Granted" else answer
 
 
+def reply_from_line(answer, first):
+    """The answer to a Prepare of all slots from a first one on."""
+    kind, *rest = answer.split(" ")
+    if kind != "PromiseFrom":
+        return reply_line(answer)
+    reports = [f"{accepted_line(f'{ballot} {value}')} in slot {slot}" for slot, ballot, value in zip(rest[::3], rest[1::3], rest[2::3])]
+    return f"promises all slots from {first} on, and has accepted {', '.join(reports) or 'nothing'}"
+
+
 def accepted_line(answer):
     if not answer:
         return "nothing"
@@ -98,6 +107,26 @@ def attempt_line(answer):
         return "none"
     slot, ballot, has_majority = answer.split(" ")
     return f"for {slot} at {ballot}, {'has' if has_majority == 'yes' else 'lacks'} its majority"
+
+
+def next_line(answer):
+    if not answer or answer == REFUSED:
+        return answer or "none"
+    slot, is_reported = answer.split(" ")
+    return f"{slot}, and {'something' if is_reported == 'yes' else 'nothing'} is reported from there on"
+
+
+def reported(words):
+    """What is reported of slots, as in `6 1.0 616263 8 2.1 noop`, as words of a request: how many, and each as an Accepted."""
+    reports = [message("Accepted", 0, slot, ballot, value=value) for slot, ballot, value in zip(*[iter(words)] * 3)]
+    return " ".join([str(len(reports)), *reports])
+
+
+def reported_each(slots, ballot, value):
+    """The same of many slots at one ballot, as in `6-4000:2`, whose step is behind the last slot."""
+    ends, step = slots.split(":")
+    first, last = map(int, ends.split("-"))
+    return reported([word for slot in range(first, last + 1, int(step)) for word in (str(slot), ballot, value)])
 
 
 def begun_line(answer):
@@ -121,6 +150,10 @@ def acceptor(call, slot, ballot=None, value="noop"):
         return f"acceptor promised {message('Ask', slot=slot)}", lambda answer: answer or "nothing"
     if call == "accepted":
         return f"acceptor accepted {message('Ask', slot=slot)}", accepted_line
+    if call == "prepare-from":
+        return f"acceptor hand-from {message('Prepare', 0, slot, ballot)}", lambda answer: reply_from_line(answer, slot)
+    if call == "would-promise-from":
+        return f"acceptor would-promise-from {message('Prepare', 0, slot, ballot)}", str
     kind = "Prepare" if call in ("prepare", "would-promise") else "Accept"
     handed = message(kind, 0, slot, ballot, value=value)
     return (f"acceptor would-grant {handed}", str) if call.startswith("would") else (f"acceptor hand {handed}", reply_line)
@@ -129,9 +162,17 @@ def acceptor(call, slot, ballot=None, value="noop"):
 def proposer(call, *rest):
     if call == "attempt":
         return "proposer attempt", attempt_line
-    if call == "begin":
+    if call in ("begin", "begin-from"):
         slot, seen, candidate = rest
-        return f"proposer begin {seen} {message('Decided', slot=slot, value=candidate)}", begun_line
+        return f"proposer {call} {seen} {message('Decided', slot=slot, value=candidate)}", begun_line
+    if call == "next":
+        return "proposer next", next_line
+    if call == "go-on":
+        return f"proposer go-on {message('Decided', value=rest[0])}", accept_line
+    if call == "promise-from":
+        sender, slot, ballot, *words = rest
+        told = reported_each(*words[1:]) if words[:1] == ["each"] else reported(words)
+        return f"proposer hand-from {message('Promise', sender, slot, ballot)} {told}", accept_line
     if call == "nack":
         slot, ballot = rest
         return f"proposer hand {message('Nack', 0, slot, ballot, ballot)}", attempt_line

@@ -19,10 +19,10 @@ module _ {X : Type 0} where
   pub in_middle : (before : List X) (x : X) (after : List X) → Contains (before ++ x ∷ after) x
   in_middle before x after = Contains-append_right before (x ∷ after) x (Contains-append_left (x ∷ []) after x (one_in x))
 
-  in_front : (x : X) (xs : List X) → Contains (x ∷ xs) x
+  pub in_front : (x : X) (xs : List X) → Contains (x ∷ xs) x
   in_front x xs = Contains-append_left (x ∷ []) xs x (one_in x)
 
-  behind_front : (x : X) (xs : List X) (y : X) → Contains xs y → Contains (x ∷ xs) y
+  pub behind_front : (x : X) (xs : List X) (y : X) → Contains xs y → Contains (x ∷ xs) y
   behind_front x xs y has = Contains-append_right (x ∷ []) xs y has
 
 -- where a list is cut before its first entry and behind it, one of the cuts is not at the last of its highest entries

@@ -3,7 +3,7 @@ use Rattle.std.specs.Prelude.{◌≡◌, ℕ, Some}
 use Rattle.ballots.specs.Ballot.{Ballot, IsBelow, IsAbove, IsAtLeast}
 use Rattle.ballots.specs.declared.acceptance.Acceptance.{Acceptance}
 use Rattle.acceptor.specs.declared.answer.Answer.{Answer}
-use Rattle.acceptor.specs.declared.answer.Answer.TheVariants.{Promise, Granted, Nack}
+use Rattle.acceptor.specs.declared.answer.Answer.TheVariants.{Promise, PromiseFrom, Granted, Nack}
 use Rattle.acceptor.specs.Standing.{Standing, IsSame, Sets}
 
 -- A Prepare is promised exactly where its ballot is above what the slot has promised. The Promise reports what the
@@ -13,6 +13,7 @@ Prepares old new slot ballot (Promise report) =
     IsAbove ballot (old.promised slot) × (report ≡ old.accepted slot) × Sets old new slot ballot (old.accepted slot)
 Prepares old new slot ballot (Nack promised) =
     (old.promised slot ≡ Some promised) × IsAtLeast promised (Some ballot) × IsSame old new
+Prepares old new slot ballot (PromiseFrom reports) = ⊥
 Prepares old new slot ballot Granted = ⊥
 
 -- An Accept is granted exactly where its ballot is what the slot has promised or above. The slot has then promised
@@ -23,3 +24,4 @@ Accepts old new slot proposal Granted =
 Accepts old new slot proposal (Nack promised) =
     (old.promised slot ≡ Some promised) × IsBelow proposal.ballot promised × IsSame old new
 Accepts old new slot proposal (Promise report) = ⊥
+Accepts old new slot proposal (PromiseFrom reports) = ⊥

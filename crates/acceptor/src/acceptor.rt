@@ -1,27 +1,32 @@
-ghost use Rattle.std.specs.Prelude.{◌≡◌, ◌↔◌, ◌<◌, ◌≤◌, ◌+◌, ◌∷◌, ◌++◌, [], List, Some, option_map};
+ghost use Rattle.std.specs.Prelude.{◌≡◌, ◌↔◌, ◌<◌, ◌≤◌, ◌+◌, ◌∷◌, ◌++◌, [], ℕ, List, Some, option_map};
 ghost use Rattle.std.specs.Prelude.{IsTrue, IfOk, OnOk, OnErr};
 ghost use Rattle.ballots.specs.Ballot.{IsAbove, IsAtLeast};
 ghost use Rattle.ballots.specs.declared.record.Record.{Record as Kept};
 ghost use Rattle.acceptor.specs.Standing.{IsFresh, IsSame, Sets};
 ghost use Rattle.acceptor.specs.AcceptorState.{HasRoomFor, promised_at, accepted_at, standing};
 ghost use Rattle.acceptor.specs.Answering.{Prepares, Accepts};
+ghost use Rattle.acceptor.specs.Ranged.{AreAcceptances, AreBelow, IsHighestFrom, PreparesFrom};
 ghost use Rattle.acceptor.specs.Raising.{Applies};
 ghost use Rattle.acceptor.specs.Restored.{IsRestored};
 
 use crate::answer::Answer;
 use crate::maps::{
-    held_acceptance, held_promise, put_acceptance, put_promise, raise_acceptance, raise_promise,
+    acceptances_from, held_acceptance, held_promise, highest_promise_from, put_acceptance,
+    put_promise, raise_acceptance, raise_promise,
 };
+use crate::ranges::{Ranges, higher_of};
 use crate::records::copied;
 use ballots::{Acceptance, Ballot, OutOfMemory, Record, Slot};
 use indexmap::IndexMap;
 use std::alloc::Global;
 use std::marker::Model;
 
-/// An acceptor for all slots. It takes memory for each slot that it has promised or accepted for, and no other.
+/// An acceptor for all slots. It takes memory for each slot that it has promised or accepted for, and for promises of
+/// all slots from a first one on, however many these are.
 #[derive(Debug, Drop)]
 pub struct Acceptor {
     promises: IndexMap<Slot, Ballot>,
+    ranges: Ranges,
     acceptances: IndexMap<Slot, Acceptance>,
 }
 
@@ -35,6 +40,7 @@ impl Model for Acceptor {
 
     ghost view = { λ a. record {
       promises = a.promises.entries;
+      ranges = a.ranges;
       acceptances = a.acceptances.entries;
       room = min (spare a.promises) (spare a.acceptances);
     } };
@@ -48,6 +54,7 @@ impl Acceptor {
     {
         Acceptor {
             promises: IndexMap::new(alloc),
+            ranges: Ranges::new(alloc),
             acceptances: IndexMap::new(alloc),
         }
     }
@@ -69,7 +76,10 @@ impl Acceptor {
     pub fn promised(&self, slot: Slot) -> Option<Ballot>
         ensures { result ≡ promised_at self.now slot }
     {
-        held_promise(&self.promises, slot)
+        higher_of(
+            held_promise(&self.promises, slot),
+            self.ranges.promised(slot),
+        )
     }
 
     /// The value that the slot has last accepted, with the ballot that it was accepted at, `None` where it has
@@ -86,6 +96,17 @@ impl Acceptor {
     {
         match self.promised(slot) {
             Some(promised) => promised.is_below(ballot),
+            None => true,
+        }
+    }
+
+    /// Whether `on_prepare_from` would promise the ballot, memory apart: it is above all that the slots from this one on
+    /// have promised.
+    pub fn would_promise_from(&self, slot: Slot, ballot: Ballot) -> bool
+        ensures { IsTrue result ↔ AreBelow (promised_at self.now) slot ballot }
+    {
+        match self.highest_from(slot) {
+            Some(greatest) => greatest.is_below(ballot),
             None => true,
         }
     }
@@ -120,6 +141,27 @@ impl Acceptor {
         self.promises.reserve(2)?;
         put_promise(&mut self.promises, slot, ballot);
         Ok(Answer::Promise(report))
+    }
+
+    /// Answers a Prepare of all slots from this one on: one promise binds them all, and slots below stay as they are. Its
+    /// time and memory grow with what the acceptor holds, not with the number of slots. Only a promise takes memory, its
+    /// own: room that [`Acceptor::make_room`] made stays.
+    pub fn on_prepare_from(&mut self, slot: Slot, ballot: Ballot) -> Result<Answer, OutOfMemory>
+        ensures answered { IfOk result (PreparesFrom (standing self.old) (standing self.new) slot ballot) }
+        ensures err { OnErr result (IsSame (standing self.old) (standing self.new)) }
+        ensures memory { OnErr result (AreBelow (promised_at self.old) slot ballot) }
+        ensures room { 0 < self.old.room → 0 < self.new.room }
+    {
+        if let Some(greatest) = self.highest_from(slot) {
+            if !greatest.is_below(ballot) {
+                return Ok(Answer::Nack(greatest));
+            }
+        }
+
+        // The promise is the last step that memory can be refused to.
+        let reports = self.reports_from(slot)?;
+        self.ranges.promise_from(slot, ballot)?;
+        Ok(Answer::PromiseFrom(reports))
     }
 
     /// Answers an Accept. What is accepted is kept before it is answered. Only a grant takes memory, its own: room that
@@ -195,6 +237,7 @@ impl Acceptor {
     // Promises the ballot of a proposal, and keeps that as accepted. Where memory is refused, nothing has changed. Room
     // for one slot more stays, for a record.
     fn set(&mut self, slot: Slot, granted: Acceptance) -> Result<(), OutOfMemory>
+        requires { IsAtLeast granted.ballot (promised_at self.old slot) }
         ensures ok { OnOk result (Sets (standing self.old) (standing self.new) slot granted.ballot (Some granted)) }
         ensures err { OnErr result (IsSame (standing self.old) (standing self.new)) }
         ensures room { 0 < self.old.room → 0 < self.new.room }
@@ -203,6 +246,28 @@ impl Acceptor {
         put_promise(&mut self.promises, slot, granted.ballot);
         put_acceptance(&mut self.acceptances, slot, granted);
         Ok(())
+    }
+
+    // The highest ballot that this slot or one above it has promised.
+    fn highest_from(&self, first: Slot) -> Option<Ballot>
+        ensures { IsHighestFrom (promised_at self.now) first result }
+    {
+        higher_of(
+            highest_promise_from(&self.promises, first),
+            self.ranges.highest(),
+        )
+    }
+
+    // What this slot and all above it have accepted, for a report. It sorts the acceptances, which stay what they are.
+    fn reports_from(&mut self, first: Slot) -> Result<Vec<(Slot, Acceptance)>, OutOfMemory>
+        ensures reports { IfOk result (λ reports. AreAcceptances (accepted_at self.old) first reports.items) }
+        ensures promises { self.new.promises ≡ self.old.promises }
+        ensures ranges { self.new.ranges ≡ self.old.ranges }
+        ensures acceptances { (slot : ℕ) → accepted_at self.new slot ≡ accepted_at self.old slot }
+        ensures room { self.old.room ≤ self.new.room }
+    {
+        self.acceptances.sort_keys()?;
+        acceptances_from(*self.acceptances.allocator(), &self.acceptances, first)
     }
 
     // What the slot has accepted, for a report: the acceptor keeps the value, so the report has a copy.

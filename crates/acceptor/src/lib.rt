@@ -1,7 +1,8 @@
 //! The acceptor of Paxos (Lamport, *Paxos Made Simple*, section 2.2): for each slot the highest ballot that it has
 //! promised, and the last value that it accepted with that value's ballot.
 //!
-//! `on_prepare` and `on_accept` change the acceptor and give the answer at once. A node that starts again keeps a
+//! `on_prepare` and `on_accept` change the acceptor and give the answer at once. `on_prepare_from` does the same of a
+//! Prepare of all slots from a first one on, which one promise then binds (section 3). A node that starts again keeps a
 //! record before each answer goes out, since a promise that is forgotten is broken. It asks first, makes the room,
 //! keeps the record, and then applies it, which takes no memory and cannot fail:
 //!
@@ -13,13 +14,20 @@
 //! let acceptor = Acceptor::from_records(alloc, &records)?;  // when the node starts again: it has back every promise
 //! ```
 //!
-//! `answers_are_as_recorded` in [`laws`] says that both ways leave the same.
+//! `answers_are_as_recorded` in [`laws`] says that both ways leave the same. A promise of all slots from a first one on has
+//! no record, so a node that starts again does not give it:
+//!
+//! ```text
+//! let promised = acceptor.would_promise_from(slot, ballot); // changes nothing
+//! let answer = acceptor.on_prepare_from(slot, ballot)?;     // slots below this one stay as they are
+//! ```
 #![tactic(auto)]
 
 mod acceptor;
 mod answer;
 pub mod laws;
 mod maps;
+mod ranges;
 mod records;
 
 pub use acceptor::Acceptor;

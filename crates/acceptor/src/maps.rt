@@ -1,13 +1,18 @@
 //! The two maps of an acceptor, by slots: what is promised, and what is accepted.
 
-ghost use Rattle.std.specs.Prelude.{◌≡◌, ◌<◌, ◌≤◌, ◌+◌, Some, option_map};
-ghost use Rattle.indexmap.specs.IndexMap.{spare};
+ghost use Rattle.std.specs.Prelude.{◌≡◌, ◌<◌, ◌≤◌, ◌+◌, Some, option_map, IfOk, IsSorted};
+ghost use Rattle.std.specs.Ordering.{nat_cmp};
+ghost use Rattle.indexmap.specs.IndexMap.{keys, spare};
 ghost use Rattle.acceptor.specs.AcceptorState.{at};
+ghost use Rattle.ballots.specs.Limits.{max_slot};
 ghost use Rattle.ballots.specs.Slots.{SetsSlot};
 ghost use Rattle.acceptor.specs.Raising.{Raises};
+ghost use Rattle.acceptor.specs.Ranged.{AreAcceptances, IsHighestFrom};
 
-use ballots::{Acceptance, Ballot, Slot};
+use crate::ranges::higher_of;
+use ballots::{Acceptance, Ballot, OutOfMemory, Slot};
 use indexmap::IndexMap;
+use std::alloc::Global;
 
 pub(crate) fn held_promise(promises: &IndexMap<Slot, Ballot>, slot: Slot) -> Option<Ballot>
     ensures { result ≡ at promises.now.entries slot }
@@ -22,6 +27,39 @@ pub(crate) fn held_acceptance(
     ensures { option_map (λ held. held.now) result ≡ at acceptances.now.entries slot }
 {
     acceptances.get(&slot)
+}
+
+// The highest of the promises of this slot and of all above it.
+pub(crate) fn highest_promise_from(promises: &IndexMap<Slot, Ballot>, first: Slot) -> Option<Ballot>
+    ensures highest { IsHighestFrom (at promises.now.entries) first result }
+    ensures within { first ≤ max_slot }
+{
+    let least = first.number();
+    let mut highest = None;
+    for (slot, ballot) in promises {
+        if least <= slot.number() {
+            highest = higher_of(highest, Some(*ballot));
+        }
+    }
+    highest
+}
+
+// What this slot and all above it have accepted, from a map that is sorted by slots.
+pub(crate) fn acceptances_from(
+    alloc: Global,
+    acceptances: &IndexMap<Slot, Acceptance>,
+    first: Slot,
+) -> Result<Vec<(Slot, Acceptance)>, OutOfMemory>
+    requires { IsSorted nat_cmp (keys acceptances.now) }
+    ensures { IfOk result (λ reports. AreAcceptances (at acceptances.now.entries) first reports.items) }
+{
+    let mut reports = Vec::new(alloc);
+    for (slot, acceptance) in acceptances {
+        if first.number() <= slot.number() {
+            reports.push((*slot, acceptance.clone()?))?;
+        }
+    }
+    Ok(reports)
 }
 
 // Makes this the slot's promise, without memory.

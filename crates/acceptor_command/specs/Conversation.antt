@@ -9,7 +9,7 @@ use Rattle.ballots.specs.declared.message.Body.TheVariants as says
 use Rattle.ballots.specs.Ballot.{Ballot, IsAbove, IsAtLeast}
 use Rattle.ballots.specs.Message.{message, IsMessageText, canonical}
 use Rattle.acceptor.specs.declared.answer.Answer.{Answer}
-use Rattle.acceptor.specs.declared.answer.Answer.TheVariants.{Promise, Granted, Nack}
+use Rattle.acceptor.specs.declared.answer.Answer.TheVariants.{Promise, PromiseFrom, Granted, Nack}
 use Rattle.acceptor.specs.Standing.{Standing, IsSame}
 use Rattle.acceptor.specs.Answering.{Prepares, Accepts}
 
@@ -26,11 +26,13 @@ abbrev pub prepare_reply : ℕ → Ballot → Answer → Option Message
 prepare_reply slot ballot (Promise report) = Some (own_message slot (says.Promise ballot report))
 prepare_reply slot ballot (Nack promised) = Some (own_message slot (says.Nack ballot promised))
 prepare_reply slot ballot Granted = None
+prepare_reply slot ballot (PromiseFrom reports) = None
 
 abbrev pub accept_reply : ℕ → Acceptance → Answer → Option Message
 accept_reply slot proposal Granted = Some (own_message slot (says.Accepted proposal))
 accept_reply slot proposal (Nack promised) = Some (own_message slot (says.Nack proposal.ballot promised))
 accept_reply slot proposal (Promise report) = None
+accept_reply slot proposal (PromiseFrom reports) = None
 
 abbrev pub RepliesToPrepare : Standing → ℕ → Ballot → Option Message → Standing → Type 0
 RepliesToPrepare old slot ballot reply new =

@@ -60,7 +60,7 @@ fn reply_to_prepare(
     let body = match acceptor.on_prepare(slot, ballot)? {
         Answer::Promise(report) => Body::Promise { ballot, report },
         Answer::Nack(promised) => Body::Nack { ballot, promised },
-        Answer::Granted => return Ok(None),
+        Answer::PromiseFrom(_) | Answer::Granted => return Ok(None),
     };
     Ok(Some(own_message(slot, body)))
 }
@@ -88,7 +88,7 @@ fn reply_to_accept(
     let body = match acceptor.on_accept(slot, asked)? {
         Answer::Granted => Body::Accepted(Acceptance { ballot, value }),
         Answer::Nack(promised) => Body::Nack { ballot, promised },
-        Answer::Promise(_) => return Ok(None),
+        Answer::Promise(_) | Answer::PromiseFrom(_) => return Ok(None),
     };
     Ok(Some(own_message(slot, body)))
 }

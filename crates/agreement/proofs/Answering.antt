@@ -11,7 +11,7 @@ use Rattle.ballots.specs.Message.{message}
 use Rattle.acceptor.specs.Standing.{Standing, Sets, IsSame}
 use Rattle.acceptor.specs.AcceptorState.{standing, promised_at, accepted_at}
 use Rattle.acceptor.specs.declared.answer.Answer.TheVariants as answer
-use Rattle.learner.specs.Calls.{Call as LearnerCall}
+use Rattle.learner.specs.Calls.{LearnerCall}
 use Rattle.agreement_rules.specs.Views.{Views, with_seen_round, HasPrefix}
 use Rattle.agreement_rules.specs.Due.{Plan, IsMessageOf, round_in}
 use Rattle.agreement.specs.declared.step.Change.{Change}

@@ -7,14 +7,14 @@ use Rattle.ballots.specs.Slots.{OthersStay}
 use Rattle.ballots.specs.declared.value.Value.{Value}
 use Rattle.ballots.specs.declared.acceptance.Acceptance.{Acceptance}
 use Rattle.ballots.specs.declared.message.Body.TheVariants as body
-use Rattle.learner.specs.Calls.{Call as LearnerCall, slot_of, Learns}
+use Rattle.learner.specs.Calls.{LearnerCall, slot_of, Learns}
 use Rattle.learner.specs.Calls as learner_call
 use Rattle.learner.specs.State.{LearnerState, decided_at as learned_at, HasRoomToLearn, HasRoomForVote}
 use Rattle.learner.specs.Learned.{StateAfter as LearnerAfter, HasLearned, IsSame as LearnerStays}
 use Rattle.learner.specs.Changes.{LearnsNow, DecidedNow}
 use Rattle.decided_log.specs.Decided.{IsPrefix, IsSame as LogStays}
 use Rattle.decided_log.specs.LogState.{LogState, decided_at}
-use Rattle.agreement_rules.specs.Views.{Config, Views}
+use Rattle.agreement_rules.specs.Views.{AgreementConfig, Views}
 use Rattle.agreement.specs.declared.step.Change.{Change}
 use Rattle.agreement.specs.declared.step.Change.TheVariants.{Accepted, Decided}
 use Rattle.agreement.specs.declared.step.AgreementStep.{AgreementStep as Step}
@@ -114,7 +114,7 @@ module _ (old mid : AgreementState) (seen sender slot : ℕ) (learned : Option V
   told_grows : (views : Views) (call : LearnerCall) → Has old views → slot_of call ≡ slot → Learns old.config.members views.learner_calls call slot learned → step.grown.items ≡ grown
       → Grows old.config.members views.learner_calls (views.learner_calls ++ call ∷ []) step.grown.items
   told_grows views call has there learns is =
-      let members : mid.config.members ≡ old.config.members = ap (λ (x : Config). x.members) config in
+      let members : mid.config.members ≡ old.config.members = ap (λ (x : AgreementConfig). x.members) config in
       subst (λ (l : List Value). Grows old.config.members views.learner_calls (views.learner_calls ++ call ∷ []) l) (sym is)
       (subst (λ (m : ℕ). Grows m views.learner_calls (views.learner_calls ++ call ∷ []) grown) members
       (grows views call (stays views has) there (subst (λ (m : ℕ). Learns m views.learner_calls call slot learned) (sym members) learns)))
@@ -146,7 +146,7 @@ module _ (old mid : AgreementState) (seen sender slot : ℕ) (learned : Option V
 module _ (old mid new : AgreementState) (slot : ℕ) (learned : Option Value) (config : mid.config ≡ old.config) (config' : new.config ≡ mid.config) (learner : new.learner ≡ mid.learner)
     (room : HasRoomForLearned new.log learned) (within : slot < old.config.slot_limit) where
   still_within : slot < new.config.slot_limit
-  still_within = subst (λ (x : Config). slot < x.slot_limit) (sym (config' ∙ config)) within
+  still_within = subst (λ (x : AgreementConfig). slot < x.slot_limit) (sym (config' ∙ config)) within
 
   pub can_hear : (sender : ℕ) (acceptance : Acceptance) → HasRoomForVote mid.learner sender slot acceptance.ballot → LearnsNow mid.learner sender slot acceptance.ballot acceptance.value learned
       → CanCountVote new sender slot acceptance learned

@@ -11,7 +11,7 @@ use Rattle.ballots.specs.declared.value.Value.{Value}
 use Rattle.ballots.specs.declared.record.Record.{Record}
 use Rattle.ballots.specs.declared.record.Record.TheVariants as kept_as
 use Rattle.acceptor.specs.Restored.{IsHighestRound, round_in}
-use Rattle.learner.specs.Calls.{Call, IsLearned}
+use Rattle.learner.specs.Calls.{LearnerCall, IsLearned}
 use Rattle.learner.specs.State.{LearnerState, decided_at as learned_at}
 use Rattle.learner.specs.Changes.{LearnsNow, DecidedNow}
 use Rattle.agreement.specs.Step.{IsAnswer}
@@ -86,7 +86,7 @@ nothing_learned members slot None told = refl
 nothing_learned members slot (Some value) told =
     let learned = told value refl in absurd (nil_is_short learned.before learned.call learned.after learned.parts)
   where
-    nil_is_short : (before : List Call) (call : Call) (after : List Call) → [] ≡ before ++ call ∷ after → ⊥
+    nil_is_short : (before : List LearnerCall) (call : LearnerCall) (after : List LearnerCall) → [] ≡ before ++ call ∷ after → ⊥
     nil_is_short [] call after e = absurd cc
     nil_is_short (x ∷ before) call after e = absurd cc
 

@@ -7,7 +7,7 @@ use Rattle.ballots.specs.declared.message.Message.{Message}
 use Rattle.ballots.specs.declared.message.Body.TheVariants as body
 use Rattle.ballots.specs.Message.{message}
 use Rattle.proposer.specs.Call.{Start}
-use Rattle.proposer.specs.Call.{Call as ProposerCall}
+use Rattle.proposer.specs.Call.{ProposerCall}
 use Rattle.proposer.specs.Attempting.{Answers}
 use Rattle.proposer.specs.State.{StateAfter as ProposerAfter}
 use Rattle.decided_log.specs.Asked.{asked_of}

@@ -9,25 +9,25 @@ use Rattle.proposer.specs.State.{ProposerState, StateAfter as ProposerAfter}
 use Rattle.learner.specs.State.{LearnerState, decided_at as learned_at}
 use Rattle.learner.specs.Learned.{StateAfter as LearnerAfter}
 use Rattle.decided_log.specs.LogState.{LogState, decided_at}
-use Rattle.agreement_rules.specs.Views.{Config, Views}
+use Rattle.agreement_rules.specs.Views.{AgreementConfig, Views}
 
 pub record AgreementState : Type 0 where
   pub me : ℕ
-  pub config : Config
+  pub config : AgreementConfig
   pub seen_round : ℕ
   pub acceptor : AcceptorState
   pub proposer : ProposerState
   pub learner : LearnerState
   pub log : LogState
 
-abbrev pub coded_config : Coded Config
+abbrev pub coded_config : Coded AgreementConfig
 coded_config = code_by (ℕ × ℕ) (coded× coded_ℕ coded_ℕ) (λ c. (c.members, c.slot_limit))
     (λ p. record { members = p.0; slot_limit = p.1 }) (λ _. refl)
 
 -- a state is stored as its fields
 abbrev pub agreement_code : Coded AcceptorState → Coded ProposerState → Coded LearnerState → Coded LogState → Coded AgreementState
 agreement_code acceptor proposer learner log =
-    code_by ((ℕ × (Config × ℕ)) × ((AcceptorState × ProposerState) × (LearnerState × LogState)))
+    code_by ((ℕ × (AgreementConfig × ℕ)) × ((AcceptorState × ProposerState) × (LearnerState × LogState)))
     (coded× (coded× coded_ℕ (coded× coded_config coded_ℕ)) (coded× (coded× acceptor proposer) (coded× learner log)))
     (λ a. ((a.me, (a.config, a.seen_round)), ((a.acceptor, a.proposer), (a.learner, a.log))))
     (λ p. record {

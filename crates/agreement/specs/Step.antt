@@ -9,14 +9,14 @@ use Rattle.ballots.specs.declared.record.Record.TheVariants as kept_as
 use Rattle.ballots.specs.declared.message.Message.{Message}
 use Rattle.ballots.specs.declared.message.Body.{Body}
 use Rattle.acceptor.specs.AcceptorState.{HasRoomFor}
-use Rattle.proposer.specs.Call.{Call as ProposerCall, Begins, Promises, Nacks}
+use Rattle.proposer.specs.Call.{OneSlot, ProposerCall, Begins, Promises, Nacks}
 use Rattle.proposer.specs.Attempting.{next_ballot}
-use Rattle.learner.specs.Calls.{Call as LearnerCall}
+use Rattle.learner.specs.Calls.{LearnerCall}
 use Rattle.learner.specs.Calls as learner_call
 use Rattle.learner.specs.State.{HasRoomToLearn, HasRoomForVote, decided_at}
 use Rattle.learner.specs.Changes.{LearnsNow, DecidedNow}
 use Rattle.decided_log.specs.LogState.{LogState}
-use Rattle.agreement_rules.specs.Views.{Config, Views, with_seen_round, HasPrefix}
+use Rattle.agreement_rules.specs.Views.{AgreementConfig, Views, with_seen_round, HasPrefix}
 use Rattle.agreement_rules.specs.Due.{Plan, PartIsDue, AimIsDue, AsksAt, IsMessageOf, has_seen, Attempts, Plans, Refuses}
 use Rattle.agreement_rules.specs.Due as due
 use Rattle.agreement.specs.declared.refusal.Refusal.{Refusal}
@@ -41,7 +41,7 @@ kept_of (Decided slot value learned) = None
 -- the call of the proposer that comes with it
 abbrev pub proposer_call_of : ℕ → Change → Option ProposerCall
 proposer_call_of seen (Began slot candidate ballot began) =
-    Some (Begins (record { slot = slot; seen_round = seen; candidate = candidate; ballot = ballot }))
+    Some (Begins (record { slot = slot; reach = OneSlot; seen_round = seen; candidate = candidate; ballot = ballot }))
 proposer_call_of seen (Promised sender slot ballot report) =
     Some (Promises (record { sender = sender; slot = slot; ballot = ballot; report = report }))
 proposer_call_of seen (Refused slot ballot) = Some (Nacks slot ballot)
@@ -80,7 +80,7 @@ Grows members before after grown =
 
 -- What a body makes a node do that has seen its round: what is due, and these are the values by which the prefix grows then,
 -- which is all that matters to what waits.
-abbrev pub BodyGives : Config → ℕ → Views → (sender slot : ℕ) → Body → Plan → List Value → Type 0
+abbrev pub BodyGives : AgreementConfig → ℕ → Views → (sender slot : ℕ) → Body → Plan → List Value → Type 0
 BodyGives config me views sender slot b plan grown =
     PartIsDue config me views sender slot b plan
     × Grows config.members views.learner_calls plan.after.learner_calls grown

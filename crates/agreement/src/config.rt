@@ -17,10 +17,10 @@ pub struct AgreementConfig {
 }
 
 impl Model for AgreementConfig {
-    ghost use Rattle.agreement_rules.specs.Views.{Config};
+    ghost use Rattle.agreement_rules.specs.Views.{AgreementConfig};
     ghost use Rattle.agreement.specs.Limits.{IsSlotLimit};
 
-    ghost Value = { Config };
+    ghost Value = { AgreementConfig };
 
     ghost view = { λ c. record { members = c.members; slot_limit = c.slot_limit } };
 

@@ -5,7 +5,7 @@ ghost use Rattle.std.specs.Option.{option_or};
 ghost use Rattle.ballots.specs.Slots.{OthersStay};
 ghost use Rattle.ballots.specs.declared.value.Value.{Value as Held};
 ghost use Rattle.ballots.specs.declared.message.Body.TheVariants as body;
-ghost use Rattle.learner.specs.Calls.{Call as LearnerCall, slot_of, Learns};
+ghost use Rattle.learner.specs.Calls.{LearnerCall, slot_of, Learns};
 ghost use Rattle.learner.specs.Calls as learner_call;
 ghost use Rattle.learner.specs.Changes.{LearnsNow, DecidedNow};
 ghost use Rattle.learner.specs.State.{HasRoomToLearn, HasRoomForVote, decided_at as learned_at};

@@ -4,32 +4,32 @@ use Rattle.std.specs.List.{AllByRecursion}
 use Rattle.ballots.specs.Ballot.{IsBelow}
 use Rattle.ballots.specs.declared.value.Value.{Value}
 use Rattle.ballots.proofs.CallerLemmas.{not_below_more, not_below_itself, below_or_at_least}
-use Rattle.proposer.specs.Choosing.{Report, IsHighest, Chooses}
+use Rattle.proposer.specs.Choosing.{PromiseReport, IsHighest, Chooses}
 
 -- ballots that this one is not below
-abbrev NotBelow : Report → Report → Type 0
+abbrev NotBelow : PromiseReport → PromiseReport → Type 0
 NotBelow report other = IsBelow report.ballot other.ballot → ⊥
 
-around : (P : Report → Type 0) (before after : List Report) (h : Report) → AllByRecursion P before → P h → AllByRecursion P after → AllByRecursion P (before ++ h ∷ after)
+around : (P : PromiseReport → Type 0) (before after : List PromiseReport) (h : PromiseReport) → AllByRecursion P before → P h → AllByRecursion P after → AllByRecursion P (before ++ h ∷ after)
 around P [] after h all_before here all_after = (here, all_after)
 around P (x ∷ before) after h all_before here all_after = (all_before.0, around P before after h all_before.1 here all_after)
 
-each : (P Q : Report → Type 0) → ((x : Report) → P x → Q x) → (xs : List Report) → AllByRecursion P xs → AllByRecursion Q xs
+each : (P Q : PromiseReport → Type 0) → ((x : PromiseReport) → P x → Q x) → (xs : List PromiseReport) → AllByRecursion P xs → AllByRecursion Q xs
 each P Q step [] all = tt
 each P Q step (x ∷ xs) all = (step x all.0, each P Q step xs all.1)
 
-pub record Found (reports : List Report) : Type 0 where
-  pub report : Report
+pub record Found (reports : List PromiseReport) : Type 0 where
+  pub report : PromiseReport
   pub is_highest : IsHighest reports report
 
-first_highest : (first : Report) (rest : List Report) → Found (first ∷ rest)
+first_highest : (first : PromiseReport) (rest : List PromiseReport) → Found (first ∷ rest)
 first_highest first [] = record {
   report = first;
   is_highest = record { before = []; after = []; split = refl; above_those_before = tt; not_below_those_after = tt };
 }
 first_highest first (second ∷ rest) =
     let found = first_highest second rest in
-    let h : Report = found.report in
+    let h : PromiseReport = found.report in
     let is = found.is_highest in
     elim (below_or_at_least first.ballot h.ballot) as (λ _. Found (first ∷ second ∷ rest)) [
       | inl below ↦ record {
@@ -37,7 +37,7 @@ first_highest first (second ∷ rest) =
         is_highest = record {
           before = first ∷ is.before;
           after = is.after;
-          split = ap (λ (l : List Report). first ∷ l) is.split;
+          split = ap (λ (l : List PromiseReport). first ∷ l) is.split;
           above_those_before = (below, is.above_those_before);
           not_below_those_after = is.not_below_those_after;
         };
@@ -61,7 +61,7 @@ first_highest first (second ∷ rest) =
     ]
 
 -- the value that is chosen
-pub some_choice : (candidate : Value) (reports : List Report) → (value : Value) × Chooses candidate reports value
+pub some_choice : (candidate : Value) (reports : List PromiseReport) → (value : Value) × Chooses candidate reports value
 some_choice candidate [] = (candidate, inl (refl, refl))
 some_choice candidate (first ∷ rest) =
     let found = first_highest first rest in

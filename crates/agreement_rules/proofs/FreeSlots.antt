@@ -8,7 +8,7 @@ use Rattle.std.proofs.lemmas.Option.{same_Some}
 use Rattle.ballots.specs.declared.value.Value.{Value}
 use Rattle.ballots.specs.Majority.{tally}
 use Rattle.ballots.proofs.CallerLemmas.{with_one}
-use Rattle.learner.specs.Calls.{Call, Accepted, Decided, slot_of, IsLearned}
+use Rattle.learner.specs.Calls.{LearnerCall, Accepted, Decided, slot_of, IsLearned}
 use Rattle.learner.specs.Votes.{IsDecidedOrChosen}
 use Rattle.agreement_rules.specs.Views.{IsFree, IsFreeAfter, HasPrefix}
 use Rattle.agreement_rules.proofs.Lists.{nothing_in, first_or_rest}
@@ -22,16 +22,16 @@ either P none = none (inr (λ p. none (inl p)))
 
 -- the learner's law that is used
 abbrev pub DecidedOrChosen : Type 0
-DecidedOrChosen = (members : ℕ) (calls : List Call) (slot : ℕ) (v : Value) → IsLearned members calls slot v → IsDecidedOrChosen members calls slot v
+DecidedOrChosen = (members : ℕ) (calls : List LearnerCall) (slot : ℕ) (v : Value) → IsLearned members calls slot v → IsDecidedOrChosen members calls slot v
 
 -- ---- behind all that was told
 
 -- a slot behind all that the calls tell of
-behind : List Call → ℕ
+behind : List LearnerCall → ℕ
 behind [] = 0
 behind (call ∷ calls) = max (suc (slot_of call)) (behind calls)
 
-before_behind : (calls : List Call) (call : Call) → Contains calls call → slot_of call < behind calls
+before_behind : (calls : List LearnerCall) (call : LearnerCall) → Contains calls call → slot_of call < behind calls
 unfolding behind
 before_behind [] call has = absurd (nothing_in call has)
 before_behind (first ∷ calls) call has = elim (first_or_rest first call calls has) as (λ _. slot_of call < behind (first ∷ calls)) [
@@ -39,7 +39,7 @@ before_behind (first ∷ calls) call has = elim (first_or_rest first call calls 
   | inr rest ↦ (let less : slot_of call < behind calls = before_behind calls call rest in omega (arith, less))
 ]
 
-module _ (law : DecidedOrChosen) (members : ℕ) (calls : List Call) where
+module _ (law : DecidedOrChosen) (members : ℕ) (calls : List LearnerCall) where
   free_behind : (slot : ℕ) → behind calls ≤ slot → IsFree members calls slot
   free_behind slot le value learned = elim (law members calls slot value learned) as (λ _. ⊥) [
     | inl decided ↦ (let less : slot < behind calls = before_behind calls (Decided slot value) decided in omega (arith, less, le))

@@ -16,7 +16,7 @@ use Rattle.acceptor.specs.declared.answer.Answer.TheVariants as answer
 use Rattle.acceptor.specs.Answering.{Prepares, Accepts}
 use Rattle.acceptor.specs.Restored.{IsRestored}
 use Rattle.decided_log.specs.Asked.{decided_messages, max_asked}
-use Rattle.agreement_rules.specs.Views.{Config, Views}
+use Rattle.agreement_rules.specs.Views.{AgreementConfig, Views}
 use Rattle.agreement_rules.specs.Due.{Refusal, Plan, Plans, Refuses, Aim, Attempts, AsksFrom, AsksAt, AimIsDue, TickIsDue, IsMessageOf, has_seen, accept_of, ReplyToPrepare, ReplyToAccept, PartIsDue, BodyKeeps, MessageKeeps, TickKeeps}
 use Rattle.agreement_rules.specs.Keeping.{record_of}
 use Rattle.agreement_rules.proofs.OneDue.{Laws, one_record_of_body, one_record_of_message, one_record_of_tick}
@@ -38,6 +38,7 @@ module _ (me : ℕ) (views : Views) (slot : ℕ) (plan : Plan) (old new : Standi
       let not : IsBelow promised ballot → ⊥ = (at_least_where_not_below ballot promised).0 at_least in
       (old, restored, inr (λ above. not (subst (IsAbove ballot) has above), ap kept_of is))
   prepare_keeps ballot answer.Granted prepares is = absurd prepares
+  prepare_keeps ballot (answer.PromiseFrom reports) prepares is = absurd prepares
 
   accept_keeps : (proposal : Acceptance) (reply : Answer) → Accepts old new slot proposal reply → ReplyToAccept me views slot proposal reply plan
       → BodyKeeps views.records slot (Accept proposal) plan.kept
@@ -45,8 +46,9 @@ module _ (me : ℕ) (views : Views) (slot : ℕ) (plan : Plan) (old new : Standi
   accept_keeps proposal (answer.Nack promised) (has, below, same) is =
       (old, restored, inr (λ at_least. (at_least_where_not_below promised proposal.ballot).0 (subst (IsAtLeast proposal.ballot) has at_least) below, ap kept_of is))
   accept_keeps proposal (answer.Promise report) accepts is = absurd accepts
+  accept_keeps proposal (answer.PromiseFrom reports) accepts is = absurd accepts
 
-pub body_keeps : (config : Config) (me : ℕ) (views : Views) (sender slot : ℕ) (said : Body) (plan : Plan) → PartIsDue config me views sender slot said plan
+pub body_keeps : (config : AgreementConfig) (me : ℕ) (views : Views) (sender slot : ℕ) (said : Body) (plan : Plan) → PartIsDue config me views sender slot said plan
     → BodyKeeps views.records slot said plan.kept
 body_keeps config me views sender slot (Prepare ballot) plan (old, new, reply, restored, prepares, replies) = prepare_keeps me views slot plan old new restored ballot reply prepares replies
 body_keeps config me views sender slot (Accept proposal) plan (old, new, reply, restored, accepts, replies) = accept_keeps me views slot plan old new restored proposal reply accepts replies
@@ -56,7 +58,7 @@ body_keeps config me views sender slot (Accepted acceptance) plan is = ap kept_o
 body_keeps config me views sender slot (Decided value) plan is = ap kept_of is
 body_keeps config me views sender slot Ask plan (values, prefix, is) = ap kept_of is
 
-module _ (laws : Laws) (config : Config) (me : ℕ) (views : Views) where
+module _ (laws : Laws) (config : AgreementConfig) (me : ℕ) (views : Views) where
   pub body_record_is : (sender slot : ℕ) (said : Body) (plan : Plan) (kept : Option Record) → PartIsDue config me views sender slot said plan
       → BodyKeeps views.records slot said kept → plan.kept ≡ kept
   body_record_is sender slot said plan kept due keeps = one_record_of_body laws views.records slot said plan.kept kept (body_keeps config me views sender slot said plan due) keeps
@@ -101,16 +103,18 @@ no_record_of_decided : (me from : ℕ) (values : List Value) → filter_map reco
 no_record_of_decided me from [] = refl
 no_record_of_decided me from (value ∷ values) = no_record_of_decided me (suc from) values
 
-module _ (config : Config) (me : ℕ) (views : Views) (plan : Plan) where
+module _ (config : AgreementConfig) (me : ℕ) (views : Views) (plan : Plan) where
   prepare_stands : (slot : ℕ) (ballot : Ballot) (reply : Answer) → ReplyToPrepare me views slot ballot reply plan → StandsBehind views plan
   prepare_stands slot ballot (answer.Promise report) is = stands views plan _ is (refl, refl)
   prepare_stands slot ballot (answer.Nack promised) is = stands views plan _ is (refl, same_records views.records)
   prepare_stands slot ballot answer.Granted is = absurd is
+  prepare_stands slot ballot (answer.PromiseFrom reports) is = absurd is
 
   accept_stands : (slot : ℕ) (proposal : Acceptance) (reply : Answer) → ReplyToAccept me views slot proposal reply plan → StandsBehind views plan
   accept_stands slot proposal answer.Granted is = stands views plan _ is (refl, refl)
   accept_stands slot proposal (answer.Nack promised) is = stands views plan _ is (refl, same_records views.records)
   accept_stands slot proposal (answer.Promise report) is = absurd is
+  accept_stands slot proposal (answer.PromiseFrom reports) is = absurd is
 
   no_record_of_accept : (accept : Option (ℕ × Ballot × Value)) → filter_map record_of (accept_of me accept) ≡ []
   no_record_of_accept None = refl

@@ -7,7 +7,7 @@ use Rattle.ballots.specs.declared.acceptance.Acceptance.{Acceptance}
 use Rattle.ballots.specs.declared.message.Message.{Message}
 use Rattle.ballots.specs.declared.message.Body.{Body}
 use Rattle.ballots.specs.declared.message.Body.TheVariants.{Prepare, Promise, Nack, Accept, Accepted, Ask, Decided}
-use Rattle.agreement_rules.specs.Views.{Config, Views}
+use Rattle.agreement_rules.specs.Views.{AgreementConfig, Views}
 use Rattle.agreement_rules.specs.Due.{IsReportOf, IsBodyOf, IsMessageOf, round_of_report, round_in, has_seen}
 use Rattle.agreement_rules.specs.Naming.{ReportNames, Names}
 
@@ -47,7 +47,7 @@ members_named members (Accepted acceptance) each = each acceptance.ballot refl
 members_named members Ask each = tt
 members_named members (Decided value) each = tt
 
-pub taken_where : (config : Config) (m : Message)
+pub taken_where : (config : AgreementConfig) (m : Message)
     → (IsMessageOf config m ↔ ((m.sender < config.members) × (m.slot < config.slot_limit) × NamesMembers config.members m.body))
 taken_where config m = (
   λ is. (is.sender, is.slot, names_members config.members m.body is.body),

@@ -16,10 +16,10 @@ use Rattle.acceptor.specs.declared.answer.Answer.{Answer}
 use Rattle.acceptor.specs.declared.answer.Answer.TheVariants as answer
 use Rattle.acceptor.specs.Answering.{Prepares, Accepts}
 use Rattle.acceptor.specs.Restored.{IsRestored, IsHighestRound}
-use Rattle.proposer.specs.Call.{Promise as Promising, Call as Asked, Promises}
+use Rattle.proposer.specs.Call.{Promise as Promising, ProposerCall as Asked, Promises}
 use Rattle.proposer.specs.Attempting.{next_ballot, Answers}
 use Rattle.decided_log.specs.Asked.{asked_of}
-use Rattle.agreement_rules.specs.Views.{Config, Views, HasGap}
+use Rattle.agreement_rules.specs.Views.{AgreementConfig, Views, HasGap}
 use Rattle.agreement_rules.specs.Due.{Plan, Due, Refuses, Plans, OutOfRange, SlotsSpent, RoundsSpent, OutOfMemory, Aim, Attempts, AsksFrom, IsAim, AsksAt, AimIsDue, TickIsDue, begins, sends_alone, also_proposes, accept_of, ReplyToPrepare, ReplyToAccept, PartIsDue, record_due, BodyKeeps, MessageKeeps, TickKeeps}
 use Rattle.agreement_rules.proofs.Prefixes.{OneValue, one_prefix, one_free_slot}
 
@@ -57,7 +57,7 @@ module _ (laws : Laws) where
   attempts : (slot slot' : ℕ) (value value' : Value) → slot ≡ slot' → value ≡ value' → Attempts slot value ≡ Attempts slot' value'
   attempts slot slot' value value' slots values = cc
 
-  one_aim : (config : Config) (views : Views) (left : ℕ) (a b : Aim) → IsAim config views left a → IsAim config views left b → a ≡ b
+  one_aim : (config : AgreementConfig) (views : Views) (left : ℕ) (a b : Aim) → IsAim config views left a → IsAim config views left b → a ≡ b
   one_aim config views left (Attempts slot value) (Attempts slot' value') (inl (text, others, waits, is, free)) (inl (text', others', waits', is', free')) =
       let same : text ∷ others ≡ text' ∷ others' = sym waits ∙ waits' in
       let texts : text ≡ text' = cc in
@@ -83,7 +83,7 @@ module _ (laws : Laws) where
   abbrev begun_at : ℕ → Views → ℕ → Value → ℕ → Due
   begun_at me views slot value highest = Plans (begins me views slot value (next_ballot me highest views.seen_round))
 
-  one_asked : (config : Config) (me : ℕ) (views : Views) (slot : ℕ) (a b : Plan) → AsksAt config me views slot a → AsksAt config me views slot b → a ≡ b
+  one_asked : (config : AgreementConfig) (me : ℕ) (views : Views) (slot : ℕ) (a b : Plan) → AsksAt config me views slot a → AsksAt config me views slot b → a ≡ b
   one_asked config me views slot a b (inl (within, is)) (inl (within', is')) = is ∙ sym is'
   one_asked config me views slot a b (inl (within, is)) (inr (spent, is')) = absurd (omega (arith, within, spent))
   one_asked config me views slot a b (inr (spent, is)) (inl (within, is')) = absurd (omega (arith, within, spent))
@@ -97,7 +97,7 @@ module _ (laws : Laws) where
       let less : max views.seen_round h < max_round = subst (λ (n : ℕ). max views.seen_round n < max_round) (sym same) left in
       omega (arith, spent, less)
 
-  one_of_aim : (config : Config) (me : ℕ) (views : Views) (aim : Aim) (a b : Due) → AimIsDue config me views aim a → AimIsDue config me views aim b → a ≡ b
+  one_of_aim : (config : AgreementConfig) (me : ℕ) (views : Views) (aim : Aim) (a b : Due) → AimIsDue config me views aim a → AimIsDue config me views aim b → a ≡ b
   one_of_aim config me views (Attempts slot value) (Refuses SlotsSpent) (Refuses SlotsSpent) x y = refl
   one_of_aim config me views (Attempts slot value) (Refuses SlotsSpent) (Refuses RoundsSpent) x (k, within, is_k, spent) = absurd (omega (arith, x, within))
   one_of_aim config me views (Attempts slot value) (Refuses SlotsSpent) (Refuses OutOfRange) x y = absurd y
@@ -122,7 +122,7 @@ module _ (laws : Laws) where
   one_of_aim config me views (AsksFrom slot) (Plans plan) (Refuses refusal) x y = absurd y
   one_of_aim config me views (AsksFrom slot) (Plans plan) (Plans plan') x y = ap Plans (one_asked config me views slot plan plan' x y)
 
-  pub one_of_tick : (config : Config) (me : ℕ) (views : Views) (left : ℕ) (a b : Due) → TickIsDue config me views left a → TickIsDue config me views left b → a ≡ b
+  pub one_of_tick : (config : AgreementConfig) (me : ℕ) (views : Views) (left : ℕ) (a b : Due) → TickIsDue config me views left a → TickIsDue config me views left b → a ≡ b
   one_of_tick config me views left a b (inl (over, is)) (inl (over', is')) = is ∙ sym is'
   one_of_tick config me views left a b (inl (over, is)) (inr (aim, within, is_aim, due)) = absurd (omega (arith, over, within))
   one_of_tick config me views left a b (inr (aim, within, is_aim, due)) (inl (over, is)) = absurd (omega (arith, over, within))
@@ -136,14 +136,16 @@ module _ (laws : Laws) where
   one_reply_to_prepare me views slot ballot (answer.Promise report) a b x y = x ∙ sym y
   one_reply_to_prepare me views slot ballot (answer.Nack promised) a b x y = x ∙ sym y
   one_reply_to_prepare me views slot ballot answer.Granted a b x y = absurd x
+  one_reply_to_prepare me views slot ballot (answer.PromiseFrom reports) a b x y = absurd x
 
   one_reply_to_accept : (me : ℕ) (views : Views) (slot : ℕ) (proposal : Acceptance) (reply : Answer) (a b : Plan)
       → ReplyToAccept me views slot proposal reply a → ReplyToAccept me views slot proposal reply b → a ≡ b
   one_reply_to_accept me views slot proposal answer.Granted a b x y = x ∙ sym y
   one_reply_to_accept me views slot proposal (answer.Nack promised) a b x y = x ∙ sym y
   one_reply_to_accept me views slot proposal (answer.Promise report) a b x y = absurd x
+  one_reply_to_accept me views slot proposal (answer.PromiseFrom reports) a b x y = absurd x
 
-  pub one_of_body : (config : Config) (me : ℕ) (views : Views) (sender slot : ℕ) (body : Body) (a b : Plan)
+  pub one_of_body : (config : AgreementConfig) (me : ℕ) (views : Views) (sender slot : ℕ) (body : Body) (a b : Plan)
       → PartIsDue config me views sender slot body a → PartIsDue config me views sender slot body b → a ≡ b
   one_of_body config me views sender slot (Prepare ballot) a b (old, new, reply, restored, prepares, replies) (old', new', reply', restored', prepares', replies') =
       let alike : Prepares old new' slot ballot reply' =
@@ -190,11 +192,11 @@ module _ (laws : Laws) where
   one_record_of_body records slot (Decided value) a b x y = x ∙ sym y
   one_record_of_body records slot Ask a b x y = x ∙ sym y
 
-  pub one_record_of_message : (config : Config) (views : Views) (m : Message) (a b : Option Record) → MessageKeeps config views m a → MessageKeeps config views m b → a ≡ b
+  pub one_record_of_message : (config : AgreementConfig) (views : Views) (m : Message) (a b : Option Record) → MessageKeeps config views m a → MessageKeeps config views m b → a ≡ b
   one_record_of_message config views m a b (inl (is, keeps)) (inl (is', keeps')) = one_record_of_body views.records m.slot m.body a b keeps keeps'
   one_record_of_message config views m a b (inl (is, keeps)) (inr (not, none)) = absurd (not is)
   one_record_of_message config views m a b (inr (not, none)) (inl (is, keeps)) = absurd (not is)
   one_record_of_message config views m a b (inr (not, none)) (inr (not', none')) = none ∙ sym none'
 
-  pub one_record_of_tick : (config : Config) (me : ℕ) (views : Views) (left : ℕ) (a b : Option Record) → TickKeeps config me views left a → TickKeeps config me views left b → a ≡ b
+  pub one_record_of_tick : (config : AgreementConfig) (me : ℕ) (views : Views) (left : ℕ) (a b : Option Record) → TickKeeps config me views left a → TickKeeps config me views left b → a ≡ b
   one_record_of_tick config me views left a b (due, is, kept) (due', is', kept') = kept ∙ ap record_due (one_of_tick config me views left due due' is is') ∙ sym kept'

@@ -6,23 +6,23 @@ use Rattle.std.proofs.lemmas.Bool.{cases_lt}
 use Rattle.ballots.specs.declared.value.Value.{Value}
 use Rattle.ballots.specs.Majority.{tally}
 use Rattle.ballots.proofs.CallerLemmas.{with_one, tally_same}
-use Rattle.learner.specs.Calls.{Call, IsLearned}
+use Rattle.learner.specs.Calls.{LearnerCall, IsLearned}
 use Rattle.agreement_rules.specs.Views.{IsFreeAfter, HasPrefix}
 
 -- the learner's law that is used
 abbrev pub OneValue : Type 0
-OneValue = (members : ℕ) (calls : List Call) (slot : ℕ) (v w : Value) → IsLearned members calls slot v → IsLearned members calls slot w → v ≡ w
+OneValue = (members : ℕ) (calls : List LearnerCall) (slot : ℕ) (v w : Value) → IsLearned members calls slot v → IsLearned members calls slot w → v ≡ w
 
 -- ---- prefixes
 
-no_longer : (members : ℕ) (calls : List Call) (xs ys : List Value) → HasPrefix members calls xs → HasPrefix members calls ys → length ys ≤ length xs
+no_longer : (members : ℕ) (calls : List LearnerCall) (xs ys : List Value) → HasPrefix members calls xs → HasPrefix members calls ys → length ys ≤ length xs
 no_longer members calls xs ys x y =
     elim (slice_get_cases ys (length xs)).1 [
       | inl there ↦ absurd (x.gap there.0 (y.learned (length xs) there.0 there.2))
       | inr past ↦ past.0
     ]
 
-pub one_prefix : OneValue → (members : ℕ) (calls : List Call) (xs ys : List Value) → HasPrefix members calls xs → HasPrefix members calls ys → xs ≡ ys
+pub one_prefix : OneValue → (members : ℕ) (calls : List LearnerCall) (xs ys : List Value) → HasPrefix members calls xs → HasPrefix members calls ys → xs ≡ ys
 one_prefix one_value members calls xs ys x y =
     let no_more : length ys ≤ length xs = no_longer members calls xs ys x y in
     let no_less : length xs ≤ length ys = no_longer members calls ys xs y x in
@@ -59,7 +59,7 @@ same_tests false true there back = back refl
 same_tests false false there back = refl
 
 -- of two slots that leave so many free ones below them, the first would count for the second
-not_after : (members : ℕ) (calls : List Call) (count s t : ℕ) → s < t → IsFreeAfter members calls count s → IsFreeAfter members calls count t → ⊥
+not_after : (members : ℕ) (calls : List LearnerCall) (count s t : ℕ) → s < t → IsFreeAfter members calls count s → IsFreeAfter members calls count t → ⊥
 not_after members calls count s t lt first second =
     let below : tally s second.is_free ≡ count =
     tally_same s second.is_free first.is_free (λ a within.
@@ -72,7 +72,7 @@ not_after members calls count s t lt first second =
     let up : tally (suc s) second.is_free ≤ tally t second.is_free = tally_up (suc s) t second.is_free (omega (arith, lt)) in
     omega (arith, counts, up, second.below)
 
-pub one_free_slot : (members : ℕ) (calls : List Call) (count s t : ℕ) → IsFreeAfter members calls count s → IsFreeAfter members calls count t → s ≡ t
+pub one_free_slot : (members : ℕ) (calls : List LearnerCall) (count s t : ℕ) → IsFreeAfter members calls count s → IsFreeAfter members calls count t → s ≡ t
 one_free_slot members calls count s t first second = elim (cases_lt s t) as (λ _. s ≡ t) [
   | inl lt ↦ absurd (not_after members calls count s t lt first second)
   | inr ge ↦ elim (cases_lt t s) as (λ _. s ≡ t) [

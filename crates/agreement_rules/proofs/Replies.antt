@@ -17,12 +17,13 @@ use Rattle.acceptor.specs.declared.answer.Answer.{Answer}
 use Rattle.acceptor.specs.declared.answer.Answer.TheVariants as answer
 use Rattle.acceptor.specs.Answering.{Prepares, Accepts}
 use Rattle.acceptor.specs.Restored.{IsRestored}
-use Rattle.proposer.specs.Call.{Promise as Promising, Begun, Call as Asked, Promises}
+use Rattle.proposer.specs.Call.{Reach, OneSlot, AllFrom, Promise as Promising, Begun, ProposerCall as Asked, Promises}
 use Rattle.proposer.specs.Choosing.{HasMajority, reports_of, Chooses}
-use Rattle.proposer.specs.Attempting.{IsOpen, Completes, is_for, promise_in, answering, counted, Answers}
+use Rattle.proposer.specs.Reporting.{promise_in}
+use Rattle.proposer.specs.Attempting.{IsOpen, Completes, is_for, answering, counted, Answers}
 use Rattle.proposer.specs.Promised.{MajorityPromised}
 use Rattle.decided_log.specs.Asked.{asked_of, decided_message, decided_messages, max_asked}
-use Rattle.agreement_rules.specs.Views.{Config, Views, HasPrefix}
+use Rattle.agreement_rules.specs.Views.{AgreementConfig, Views, HasPrefix}
 use Rattle.agreement_rules.specs.Due.{Plan, Plans, Refuses, Aim, Attempts, AsksFrom, AsksAt, AimIsDue, TickIsDue, accept_of, ReplyToPrepare, ReplyToAccept, PartIsDue}
 use Rattle.agreement_rules.proofs.Lists.{nothing_in, of_one, of_none, first_or_rest}
 use Rattle.agreement_rules.proofs.Prefixes.{OneValue, one_prefix}
@@ -59,8 +60,9 @@ module _ (one_promise : OnePromise) (one_acceptance : OneAcceptance) (me : ℕ) 
         (at_least_where_not_below ballot promised).0 at_least,
       )
   prepare_replied ballot old new answer.Granted is_old prepares replies = absurd prepares
+  prepare_replied ballot old new (answer.PromiseFrom reports) is_old prepares replies = absurd prepares
 
-  pub prepare_answered : (config : Config) (sender : ℕ) (ballot : Ballot) → PartIsDue config me views sender slot (Prepare ballot) plan
+  pub prepare_answered : (config : AgreementConfig) (sender : ℕ) (ballot : Ballot) → PartIsDue config me views sender slot (Prepare ballot) plan
       → PrepareAnswered me standing slot ballot plan.sends
   prepare_answered config sender ballot (old, new, reply, is_old, prepares, replies) = prepare_replied ballot old new reply is_old prepares replies
 
@@ -85,20 +87,26 @@ module _ (one_promise : OnePromise) (me : ℕ) (views : Views) (standing : Stand
   accept_replied proposal old new (answer.Nack promised) is_old (has, below, same) replies =
       inr (promised, ap sends_of replies, sym (one_promise views.records old standing is_old restored slot) ∙ has, below)
   accept_replied proposal old new (answer.Promise report) is_old accepts replies = absurd accepts
+  accept_replied proposal old new (answer.PromiseFrom reports) is_old accepts replies = absurd accepts
 
-  pub accept_answered : (config : Config) (sender : ℕ) (proposal : Acceptance) → PartIsDue config me views sender slot (Accept proposal) plan
+  pub accept_answered : (config : AgreementConfig) (sender : ℕ) (proposal : Acceptance) → PartIsDue config me views sender slot (Accept proposal) plan
       → AcceptAnswered me standing slot proposal plan.sends
   accept_answered config sender proposal (old, new, reply, is_old, accepts, replies) = accept_replied proposal old new reply is_old accepts replies
 
 -- ---- a Promise
 
 -- one that is not for the attempt does not count
-answering_more : (members : ℕ) (begun : Begun) (since : List Asked) (p : Promising) (b : Bool) → is_for members begun p ≡ b
-    → answering members begun (since ++ Promises p ∷ []) ≡ answering members begun since ++ cond b (p ∷ []) []
-answering_more members begun since p b is =
-    ap (filter (is_for members begun)) (filter_map-append promise_in since (Promises p ∷ []))
-    ∙ filter-append (is_for members begun) (filter_map promise_in since) (p ∷ [])
-    ∙ ap (λ (t : Bool). answering members begun since ++ cond t (p ∷ []) []) is
+nothing_of : (members : ℕ) (begun : Begun) (p : Promising) (reach : Reach) → is_for members begun p ≡ false
+    → filter (is_for members begun) (filter_map (promise_in reach begun.slot) (Promises p ∷ [])) ≡ []
+nothing_of members begun p OneSlot is = ap (λ (t : Bool). cond t (p ∷ []) []) is
+nothing_of members begun p AllFrom is = refl
+
+answering_no_more : (members : ℕ) (begun : Begun) (since : List Asked) (p : Promising) → is_for members begun p ≡ false
+    → answering members begun (since ++ Promises p ∷ []) ≡ answering members begun since ++ []
+answering_no_more members begun since p is =
+    ap (filter (is_for members begun)) (filter_map-append (promise_in begun.reach begun.slot) since (Promises p ∷ []))
+    ∙ filter-append (is_for members begun) (filter_map (promise_in begun.reach begun.slot) since) (filter_map (promise_in begun.reach begun.slot) (Promises p ∷ []))
+    ∙ ap (λ (l : List Promising). answering members begun since ++ l) (nothing_of members begun p begun.reach is)
 
 both : (a b : Bool) → (a && b) ≡ true → (a ≡ true) × (b ≡ true)
 both true b is = (refl, is)
@@ -115,7 +123,7 @@ completes_step members begun since p true is completes =
     let rest = both (eqb p.slot begun.slot) (is_same_ballot p.ballot begun.ballot) sender.1 in
     record { slot = eqb-true p.slot begun.slot rest.0; ballot = (same_ballot_is p.ballot begun.ballot).0 rest.1 }
 completes_step members begun since p false is completes =
-    absurd (completes.before (subst (HasMajority members) (answering_more members begun since p false is ∙ append-nil (answering members begun since)) completes.now))
+    absurd (completes.before (subst (HasMajority members) (answering_no_more members begun since p is ∙ append-nil (answering members begun since)) completes.now))
 
 pub completes_its_own : (members : ℕ) (begun : Begun) (since : List Asked) (p : Promising) → Completes members begun since p → IsFor begun p
 completes_its_own members begun since p completes = completes_step members begun since p (is_for members begun p) refl completes
@@ -152,7 +160,7 @@ promise_replied law members me calls p (Some accept) is =
           ∙ ap (λ (b : Ballot). let l : List Message = message me p.slot (Accept (acceptance b accept.2)) ∷ [] in l) (is.ballot_is ∙ sym own.ballot),
     )
 
-pub promise_answered : MajorityLaw → (config : Config) (me : ℕ) (views : Views) (p : Promising) (plan : Plan)
+pub promise_answered : MajorityLaw → (config : AgreementConfig) (me : ℕ) (views : Views) (p : Promising) (plan : Plan)
     → PartIsDue config me views p.sender p.slot (Promise p.ballot p.report) plan → PromiseAnswered config.members me views.proposer_calls p plan.sends
 promise_answered law config me views p plan (accept, answers, is) =
     subst (PromiseAnswered config.members me views.proposer_calls p) (sym (ap sends_of is)) (promise_replied law config.members me views.proposer_calls p accept answers)
@@ -170,7 +178,7 @@ AskAnswered me values from sends =
     × ((k : ℕ) → k < length sends → (value : Value) × (slice_get values (from + k) ≡ Some value)
     × (slice_get sends k ≡ Some (message me (from + k) (Decided value))))
 
-pub ask_answered : AskedLaws → OneValue → (config : Config) (me : ℕ) (views : Views) (sender slot : ℕ) (values : List Value) (plan : Plan)
+pub ask_answered : AskedLaws → OneValue → (config : AgreementConfig) (me : ℕ) (views : Views) (sender slot : ℕ) (values : List Value) (plan : Plan)
     → HasPrefix config.members views.learner_calls values → PartIsDue config me views sender slot Ask plan → AskAnswered me values slot plan.sends
 ask_answered laws one_value config me views sender slot values plan prefix (found, is_found, is) =
     let same : found ≡ values = one_prefix one_value config.members views.learner_calls found values is_found prefix in
@@ -192,16 +200,18 @@ from_none me slot sends is m has = absurd (of_none sends m is has)
 abbrev pub IsAsk : Body → Type 0
 IsAsk said = said ≡ Ask
 
-module _ (law : MajorityLaw) (config : Config) (me : ℕ) (views : Views) (sender slot : ℕ) (plan : Plan) where
+module _ (law : MajorityLaw) (config : AgreementConfig) (me : ℕ) (views : Views) (sender slot : ℕ) (plan : Plan) where
   from_prepare : (ballot : Ballot) (reply : Answer) → ReplyToPrepare me views slot ballot reply plan → (m : Message) → Contains plan.sends m → IsFrom me slot m
   from_prepare ballot (answer.Promise report) is = from_one me slot (Promise ballot report) plan.sends (ap sends_of is)
   from_prepare ballot (answer.Nack promised) is = from_one me slot (Nack ballot promised) plan.sends (ap sends_of is)
   from_prepare ballot answer.Granted is = absurd is
+  from_prepare ballot (answer.PromiseFrom reports) is = absurd is
 
   from_accept : (proposal : Acceptance) (reply : Answer) → ReplyToAccept me views slot proposal reply plan → (m : Message) → Contains plan.sends m → IsFrom me slot m
   from_accept proposal answer.Granted is = from_one me slot (Accepted proposal) plan.sends (ap sends_of is)
   from_accept proposal (answer.Nack promised) is = from_one me slot (Nack proposal.ballot promised) plan.sends (ap sends_of is)
   from_accept proposal (answer.Promise report) is = absurd is
+  from_accept proposal (answer.PromiseFrom reports) is = absurd is
 
   from_promise : (ballot : Ballot) (sends : List Message) → ((value : Value) × (sends ≡ message me slot (Accept (acceptance ballot value)) ∷ [])) ⊎ (sends ≡ [])
       → (m : Message) → Contains sends m → IsFrom me slot m
@@ -242,14 +252,14 @@ module _ (law : MajorityLaw) (config : Config) (me : ℕ) (views : Views) (sende
 
 -- ---- a tick
 
-asks_itself : (config : Config) (me : ℕ) (views : Views) (slot : ℕ) (plan : Plan) → AsksAt config me views slot plan → (m : Message) → Contains plan.sends m → m.sender ≡ me
+asks_itself : (config : AgreementConfig) (me : ℕ) (views : Views) (slot : ℕ) (plan : Plan) → AsksAt config me views slot plan → (m : Message) → Contains plan.sends m → m.sender ≡ me
 asks_itself config me views slot plan (inl (within, is)) m has = (from_one me slot Ask plan.sends (ap sends_of is) m has).0
 asks_itself config me views slot plan (inr (spent, is)) m has = absurd (of_none plan.sends m (ap sends_of is) has)
 
-aims_itself : (config : Config) (me : ℕ) (views : Views) (aim : Aim) (plan : Plan) → AimIsDue config me views aim (Plans plan) → (m : Message) → Contains plan.sends m → m.sender ≡ me
+aims_itself : (config : AgreementConfig) (me : ℕ) (views : Views) (aim : Aim) (plan : Plan) → AimIsDue config me views aim (Plans plan) → (m : Message) → Contains plan.sends m → m.sender ≡ me
 aims_itself config me views (Attempts slot value) plan (highest, within, is_highest, left, is) m has = (from_one me slot (Prepare _) plan.sends (ap sends_of is) m has).0
 aims_itself config me views (AsksFrom slot) plan asks m has = asks_itself config me views slot plan asks m has
 
-pub ticks_itself : (config : Config) (me : ℕ) (views : Views) (left : ℕ) (plan : Plan) → TickIsDue config me views left (Plans plan) → (m : Message) → Contains plan.sends m → m.sender ≡ me
+pub ticks_itself : (config : AgreementConfig) (me : ℕ) (views : Views) (left : ℕ) (plan : Plan) → TickIsDue config me views left (Plans plan) → (m : Message) → Contains plan.sends m → m.sender ≡ me
 ticks_itself config me views left plan (inl (over, is)) m has = absurd (let no : Plans plan ≡ Refuses _ = is in cc)
 ticks_itself config me views left plan (inr (aim, within, is_aim, due)) m has = aims_itself config me views aim plan due m has

@@ -19,11 +19,11 @@ use Rattle.acceptor.specs.declared.answer.Answer.{Answer}
 use Rattle.acceptor.specs.declared.answer.Answer.TheVariants as answer
 use Rattle.acceptor.specs.Answering.{Prepares, Accepts}
 use Rattle.acceptor.specs.Restored.{IsRestored}
-use Rattle.proposer.specs.Call.{Promise as Promising, Begun, Call as Asked, Promises}
+use Rattle.proposer.specs.Call.{Promise as Promising, Begun, ProposerCall as Asked, Promises}
 use Rattle.proposer.specs.Choosing.{reports_of}
 use Rattle.proposer.specs.Attempting.{next_ballot, IsOpen, Completes, counted, Answers}
 use Rattle.decided_log.specs.Asked.{asked_of}
-use Rattle.agreement_rules.specs.Views.{Config, Views, IsFree, HasPrefix, HasGap}
+use Rattle.agreement_rules.specs.Views.{AgreementConfig, Views, IsFree, HasPrefix, HasGap}
 use Rattle.agreement_rules.specs.Due.{Plan, Due, Plans, Refuses, OutOfRange, SlotsSpent, RoundsSpent, Aim, Attempts, AsksFrom, AimIsDue, TickIsDue, most_left, quietly, begins, answers_with, sends_alone, also_proposes, accept_of, IsMessageOf, PartIsDue, record_due, BodyKeeps, MessageKeeps, TickKeeps}
 use Rattle.agreement_rules.proofs.Restorable.{put_at, put_here, put_others, highest_round}
 use Rattle.agreement_rules.proofs.FreeSlots.{NotNone, either, DecidedOrChosen, some_prefix, some_free_slot}
@@ -31,7 +31,7 @@ use Rattle.agreement_rules.proofs.Choosing.{some_choice}
 
 -- ---- a tick
 
-module _ (law : DecidedOrChosen) (config : Config) (me : ℕ) (views : Views) where
+module _ (law : DecidedOrChosen) (config : AgreementConfig) (me : ℕ) (views : Views) where
   abbrev DueToAim : Aim → Type 0
   DueToAim aim = (due : Due) × AimIsDue config me views aim due
 
@@ -168,7 +168,7 @@ some_answer members calls p none =
       | inr not ↦ none (None, λ begun since is_open completes. not (begun, since, is_open, completes))
     ])
 
-module _ (law : DecidedOrChosen) (restores : Restores) (config : Config) (me : ℕ) (views : Views) (sender slot : ℕ) where
+module _ (law : DecidedOrChosen) (restores : Restores) (config : AgreementConfig) (me : ℕ) (views : Views) (sender slot : ℕ) where
   abbrev DueToBody : Body → Type 0
   DueToBody said = (plan : Plan) × PartIsDue config me views sender slot said plan
 
@@ -178,6 +178,7 @@ module _ (law : DecidedOrChosen) (restores : Restores) (config : Config) (me : �
   plan_of_prepare ballot old new (answer.Nack promised) is prepares =
       (sends_alone views (message me slot (Nack ballot promised) ∷ []), (old, new, answer.Nack promised, is, prepares, refl))
   plan_of_prepare ballot old new answer.Granted is prepares = absurd prepares
+  plan_of_prepare ballot old new (answer.PromiseFrom reports) is prepares = absurd prepares
 
   plan_of_accept : (proposal : Acceptance) (old new : Standing) (reply : Answer) → IsRestored views.records old → Accepts old new slot proposal reply → DueToBody (Accept proposal)
   plan_of_accept proposal old new answer.Granted is accepts =
@@ -185,6 +186,7 @@ module _ (law : DecidedOrChosen) (restores : Restores) (config : Config) (me : �
   plan_of_accept proposal old new (answer.Nack promised) is accepts =
       (sends_alone views (message me slot (Nack proposal.ballot promised) ∷ []), (old, new, answer.Nack promised, is, accepts, refl))
   plan_of_accept proposal old new (answer.Promise report) is accepts = absurd accepts
+  plan_of_accept proposal old new (answer.PromiseFrom reports) is accepts = absurd accepts
 
   due_to_body : (said : Body) → NotNone (DueToBody said)
   due_to_body (Prepare ballot) none =
@@ -237,7 +239,7 @@ module _ (restores : Restores) where
   some_record records slot (Decided value) = (None, refl)
   some_record records slot Ask = (None, refl)
 
-  pub some_message_record : (config : Config) (views : Views) (m : Message) → ((kept : Option Record) → MessageKeeps config views m kept → ⊥) → ⊥
+  pub some_message_record : (config : AgreementConfig) (views : Views) (m : Message) → ((kept : Option Record) → MessageKeeps config views m kept → ⊥) → ⊥
   some_message_record config views m none = either (IsMessageOf config m) (λ found. elim found as (λ _. ⊥) [
     | inl is ↦ (let due = some_record views.records m.slot m.body in none due.0 (inl (is, due.1)))
     | inr not ↦ none None (inr (not, refl))

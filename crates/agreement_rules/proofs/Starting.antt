@@ -3,7 +3,7 @@ use Rattle.std.proofs.Common.{◌≡◌, ℕ, List, [], ◌∷◌, ◌++◌, sym
 use Rattle.std.specs.List.{Contains}
 use Rattle.std.proofs.lemmas.List.Elements.{Contains-append_right}
 use Rattle.ballots.specs.declared.value.Value.{Value}
-use Rattle.proposer.specs.Call.{Begun, Call as Asked, Begins}
+use Rattle.proposer.specs.Call.{Begun, ProposerCall as Asked, Begins}
 use Rattle.proposer.specs.Attempting.{IsOpen}
 use Rattle.learner.specs.Calls.{IsLearned}
 use Rattle.agreement_rules.proofs.Lists.{nothing_in, in_front}

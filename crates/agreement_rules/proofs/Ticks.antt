@@ -9,10 +9,10 @@ use Rattle.ballots.specs.declared.record.Record.TheVariants.{Began}
 use Rattle.ballots.specs.declared.message.Body.TheVariants.{Prepare, Ask}
 use Rattle.ballots.specs.Message.{message}
 use Rattle.acceptor.specs.Restored.{IsHighestRound}
-use Rattle.proposer.specs.Call.{Begins}
+use Rattle.proposer.specs.Call.{OneSlot, Begins}
 use Rattle.proposer.specs.Attempting.{next_ballot}
 use Rattle.learner.specs.Calls.{IsLearned}
-use Rattle.agreement_rules.specs.Views.{Config, Views, IsFreeAfter, HasPrefix, HasGap}
+use Rattle.agreement_rules.specs.Views.{AgreementConfig, Views, IsFreeAfter, HasPrefix, HasGap}
 use Rattle.agreement_rules.specs.Due.{Plan, Plans, Refuses, OutOfRange, OutOfMemory, Aim, Attempts, AsksFrom, AsksAt, AimIsDue, TickIsDue}
 use Rattle.agreement_rules.proofs.Prefixes.{OneValue, one_prefix}
 use Rattle.agreement_rules.proofs.Replies.{sends_of}
@@ -27,7 +27,7 @@ no_longer_waits text others waiting some none = let no : text ∷ others ≡ [] 
 -- ---- an attempt
 
 -- it begins at a ballot of the node's own
-abbrev pub HasBegun : Config → ℕ → Views → ℕ → Value → Plan → Type 0
+abbrev pub HasBegun : AgreementConfig → ℕ → Views → ℕ → Value → Plan → Type 0
 HasBegun config me views slot value plan =
     (ballot : Ballot) × (ballot.node ≡ me) × (views.seen_round < ballot.round)
     × ((highest : ℕ) → IsHighestRound views.records highest → highest < ballot.round) × (ballot.round ≤ max_round)
@@ -36,11 +36,11 @@ HasBegun config me views slot value plan =
       records = views.records ++ Began ballot ∷ [];
       seen_round = views.seen_round;
       waiting = views.waiting;
-      proposer_calls = views.proposer_calls ++ Begins (record { slot = slot; seen_round = views.seen_round; candidate = value; ballot = ballot }) ∷ [];
+      proposer_calls = views.proposer_calls ++ Begins (record { slot = slot; reach = OneSlot; seen_round = views.seen_round; candidate = value; ballot = ballot }) ∷ [];
       learner_calls = views.learner_calls;
     })
 
-pub begun_at : OneRound → (config : Config) (me : ℕ) (views : Views) (slot : ℕ) (value : Value) (plan : Plan) → AimIsDue config me views (Attempts slot value) (Plans plan)
+pub begun_at : OneRound → (config : AgreementConfig) (me : ℕ) (views : Views) (slot : ℕ) (value : Value) (plan : Plan) → AimIsDue config me views (Attempts slot value) (Plans plan)
     → HasBegun config me views slot value plan
 begun_at one_round config me views slot value plan (highest, within, is_highest, round_left, is) = (
   next_ballot me highest views.seen_round,
@@ -56,7 +56,7 @@ begun_at one_round config me views slot value plan (highest, within, is_highest,
 
 -- ---- what it is for
 
-module _ (one_value : OneValue) (config : Config) (me : ℕ) (views : Views) (left : ℕ) (plan : Plan) where
+module _ (one_value : OneValue) (config : AgreementConfig) (me : ℕ) (views : Views) (left : ℕ) (plan : Plan) where
   -- it attempts to have the value chosen for the slot
   abbrev AttemptsTo : ℕ → Value → Type 0
   AttemptsTo slot value = AimIsDue config me views (Attempts slot value) (Plans plan)
@@ -110,21 +110,21 @@ module _ (one_value : OneValue) (config : Config) (me : ℕ) (views : Views) (le
 
 -- ---- refusals
 
-not_of_aim : (config : Config) (me : ℕ) (views : Views) (aim : Aim) → AimIsDue config me views aim (Refuses OutOfRange) → ⊥
+not_of_aim : (config : AgreementConfig) (me : ℕ) (views : Views) (aim : Aim) → AimIsDue config me views aim (Refuses OutOfRange) → ⊥
 not_of_aim config me views (Attempts slot value) is = is
 not_of_aim config me views (AsksFrom slot) is = is
 
-pub out_of_range : (config : Config) (me : ℕ) (views : Views) (left : ℕ) → (TickIsDue config me views left (Refuses OutOfRange) ↔ (7 < left))
+pub out_of_range : (config : AgreementConfig) (me : ℕ) (views : Views) (left : ℕ) → (TickIsDue config me views left (Refuses OutOfRange) ↔ (7 < left))
 out_of_range config me views left = (there, λ over. inl (over, refl))
   where
     there : TickIsDue config me views left (Refuses OutOfRange) → 7 < left
     there (inl (over, is)) = over
     there (inr (aim, within, is_aim, due)) = absurd (not_of_aim config me views aim due)
 
-no_memory : (config : Config) (me : ℕ) (views : Views) (aim : Aim) → AimIsDue config me views aim (Refuses OutOfMemory) → ⊥
+no_memory : (config : AgreementConfig) (me : ℕ) (views : Views) (aim : Aim) → AimIsDue config me views aim (Refuses OutOfMemory) → ⊥
 no_memory config me views (Attempts slot value) is = is
 no_memory config me views (AsksFrom slot) is = is
 
-pub takes_no_memory : (config : Config) (me : ℕ) (views : Views) (left : ℕ) → TickIsDue config me views left (Refuses OutOfMemory) → ⊥
+pub takes_no_memory : (config : AgreementConfig) (me : ℕ) (views : Views) (left : ℕ) → TickIsDue config me views left (Refuses OutOfMemory) → ⊥
 takes_no_memory config me views left (inl (over, is)) = let no : Refuses OutOfMemory ≡ Refuses OutOfRange = is in cc
 takes_no_memory config me views left (inr (aim, within, is_aim, due)) = no_memory config me views aim due

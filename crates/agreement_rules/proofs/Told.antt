@@ -9,9 +9,9 @@ use Rattle.ballots.specs.declared.message.Body.{Body}
 use Rattle.ballots.specs.declared.message.Body.TheVariants.{Prepare, Promise, Nack, Accept, Accepted, Ask, Decided}
 use Rattle.acceptor.specs.declared.answer.Answer.{Answer}
 use Rattle.acceptor.specs.declared.answer.Answer.TheVariants as answer
-use Rattle.proposer.specs.Call.{Call as ProposerCall}
-use Rattle.learner.specs.Calls.{Call as LearnerCall}
-use Rattle.agreement_rules.specs.Views.{Config, Views}
+use Rattle.proposer.specs.Call.{ProposerCall}
+use Rattle.learner.specs.Calls.{LearnerCall}
+use Rattle.agreement_rules.specs.Views.{AgreementConfig, Views}
 use Rattle.agreement_rules.specs.Due.{Plan, ReplyToPrepare, ReplyToAccept, PartIsDue}
 use Rattle.agreement_rules.specs.Calling.{proposer_calls_of, learner_calls_of}
 
@@ -37,7 +37,7 @@ same_views views kept kept' asked asked' told told' one two three = cc
 no_more : {X : Type 0} (xs : List X) → xs ≡ xs ++ []
 no_more xs = sym (append-nil xs)
 
-module _ (config : Config) (me : ℕ) (views : Views) (sender slot : ℕ) (plan : Plan) where
+module _ (config : AgreementConfig) (me : ℕ) (views : Views) (sender slot : ℕ) (plan : Plan) where
   is_after : (asked : List ProposerCall) (told : List LearnerCall) (due : Plan) → plan ≡ due → IsAfter views asked told due → IsAfter views asked told plan
   is_after asked told due is after = subst (IsAfter views asked told) (sym is) after
 
@@ -49,11 +49,13 @@ module _ (config : Config) (me : ℕ) (views : Views) (sender slot : ℕ) (plan 
   after_prepare ballot (answer.Promise report) is = is_after [] [] _ is (same_views views _ _ _ _ _ _ refl (no_more views.proposer_calls) (no_more views.learner_calls))
   after_prepare ballot (answer.Nack promised) is = is_after [] [] _ is untold
   after_prepare ballot answer.Granted is = absurd is
+  after_prepare ballot (answer.PromiseFrom reports) is = absurd is
 
   after_accept : (proposal : Acceptance) (reply : Answer) → ReplyToAccept me views slot proposal reply plan → IsAfter views [] [] plan
   after_accept proposal answer.Granted is = is_after [] [] _ is (same_views views _ _ _ _ _ _ refl (no_more views.proposer_calls) (no_more views.learner_calls))
   after_accept proposal (answer.Nack promised) is = is_after [] [] _ is untold
   after_accept proposal (answer.Promise report) is = absurd is
+  after_accept proposal (answer.PromiseFrom reports) is = absurd is
 
   pub told_after : (said : Body) → PartIsDue config me views sender slot said plan
       → IsAfter views (proposer_calls_of sender slot said) (learner_calls_of sender slot said) plan

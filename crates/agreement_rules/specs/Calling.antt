@@ -3,8 +3,8 @@
 use Rattle.std.specs.Prelude.{ℕ, List, [], ◌∷◌}
 use Rattle.ballots.specs.declared.message.Body.{Body}
 use Rattle.ballots.specs.declared.message.Body.TheVariants.{Prepare, Promise, Nack, Accept, Accepted, Ask, Decided}
-use Rattle.proposer.specs.Call.{Call as ProposerCall, Promises, Nacks}
-use Rattle.learner.specs.Calls.{Call as LearnerCall}
+use Rattle.proposer.specs.Call.{ProposerCall, Promises, Nacks}
+use Rattle.learner.specs.Calls.{LearnerCall}
 use Rattle.learner.specs.Calls as learner
 
 abbrev pub proposer_calls_of : (sender slot : ℕ) → Body → List ProposerCall

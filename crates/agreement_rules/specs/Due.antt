@@ -18,12 +18,12 @@ use Rattle.acceptor.specs.declared.answer.Answer.{Answer}
 use Rattle.acceptor.specs.declared.answer.Answer.TheVariants as answer
 use Rattle.acceptor.specs.Answering.{Prepares, Accepts}
 use Rattle.acceptor.specs.Restored.{IsRestored, IsHighestRound}
-use Rattle.proposer.specs.Call.{Call as ProposerCall, Begins, Promises, Nacks}
+use Rattle.proposer.specs.Call.{OneSlot, ProposerCall, Begins, Promises, Nacks}
 use Rattle.proposer.specs.Attempting.{next_ballot, Answers}
-use Rattle.learner.specs.Calls.{Call as LearnerCall}
+use Rattle.learner.specs.Calls.{LearnerCall}
 use Rattle.learner.specs.Calls as learner
 use Rattle.decided_log.specs.Asked.{asked_of}
-use Rattle.agreement_rules.specs.Views.{Config, Views, with_records, with_seen_round, with_proposer_calls, with_learner_calls, IsFreeAfter, HasPrefix, HasGap}
+use Rattle.agreement_rules.specs.Views.{AgreementConfig, Views, with_records, with_seen_round, with_proposer_calls, with_learner_calls, IsFreeAfter, HasPrefix, HasGap}
 
 -- ---- what is due
 
@@ -64,7 +64,7 @@ pub data Aim : Type 0 where
 
 -- Where something waits, the first is attempted, at the free slot that leaves so many free ones below it to others. Else a
 -- no-op is attempted at the first free slot if something is learned behind it, and if not, the node asks from there on.
-abbrev pub IsAim : Config → Views → ℕ → Aim → Type 0
+abbrev pub IsAim : AgreementConfig → Views → ℕ → Aim → Type 0
 IsAim config views left (Attempts slot value) =
     ((text : List ℕ) × (others : List (List ℕ)) × (views.waiting ≡ text ∷ others) × (value ≡ UploadValue text)
     × IsFreeAfter config.members views.learner_calls left slot)
@@ -86,6 +86,7 @@ begins me views slot value ballot = record {
   sends = message me slot (Prepare ballot) ∷ [];
   after = also_proposes (with_records views (views.records ++ Began ballot ∷ [])) (Begins (record {
     slot = slot;
+    reach = OneSlot;
     seen_round = views.seen_round;
     candidate = value;
     ballot = ballot;
@@ -93,12 +94,12 @@ begins me views slot value ballot = record {
 }
 
 -- what is asked from a slot on, unless there is no such slot
-abbrev pub AsksAt : Config → ℕ → Views → ℕ → Plan → Type 0
+abbrev pub AsksAt : AgreementConfig → ℕ → Views → ℕ → Plan → Type 0
 AsksAt config me views slot plan =
     ((slot < config.slot_limit) × (plan ≡ sends_alone views (message me slot Ask ∷ [])))
     ⊎ ((slot ≡ config.slot_limit) × (plan ≡ quietly views))
 
-abbrev pub AimIsDue : Config → ℕ → Views → Aim → Due → Type 0
+abbrev pub AimIsDue : AgreementConfig → ℕ → Views → Aim → Due → Type 0
 AimIsDue config me views (Attempts slot value) (Refuses SlotsSpent) = config.slot_limit ≤ slot
 AimIsDue config me views (Attempts slot value) (Refuses RoundsSpent) =
     (highest : ℕ) × (slot < config.slot_limit) × IsHighestRound views.records highest
@@ -115,7 +116,7 @@ AimIsDue config me views (AsksFrom slot) (Plans plan) = AsksAt config me views s
 abbrev pub most_left : ℕ
 most_left = 7
 
-abbrev pub TickIsDue : Config → ℕ → Views → ℕ → Due → Type 0
+abbrev pub TickIsDue : AgreementConfig → ℕ → Views → ℕ → Due → Type 0
 TickIsDue config me views left due =
     ((most_left < left) × (due ≡ Refuses OutOfRange))
     ⊎ ((aim : Aim) × (left ≤ most_left) × IsAim config views left aim × AimIsDue config me views aim due)
@@ -136,7 +137,7 @@ IsBodyOf members (Accepted acceptance) = acceptance.ballot.node < members
 IsBodyOf members Ask = Unit {0}
 IsBodyOf members (Decided value) = Unit {0}
 
-pub record IsMessageOf (config : Config) (m : Message) : Type 0 where
+pub record IsMessageOf (config : AgreementConfig) (m : Message) : Type 0 where
   pub sender : m.sender < config.members
   pub slot : m.slot < config.slot_limit
   pub body : IsBodyOf config.members m.body
@@ -165,6 +166,7 @@ ReplyToPrepare me views slot ballot (answer.Promise report) plan =
 ReplyToPrepare me views slot ballot (answer.Nack promised) plan =
     plan ≡ sends_alone views (message me slot (Nack ballot promised) ∷ [])
 ReplyToPrepare me views slot ballot answer.Granted plan = ⊥
+ReplyToPrepare me views slot ballot (answer.PromiseFrom reports) plan = ⊥
 
 abbrev pub ReplyToAccept : ℕ → Views → ℕ → Acceptance → Answer → Plan → Type 0
 ReplyToAccept me views slot proposal answer.Granted plan =
@@ -172,6 +174,7 @@ ReplyToAccept me views slot proposal answer.Granted plan =
 ReplyToAccept me views slot proposal (answer.Nack promised) plan =
     plan ≡ sends_alone views (message me slot (Nack proposal.ballot promised) ∷ [])
 ReplyToAccept me views slot proposal (answer.Promise report) plan = ⊥
+ReplyToAccept me views slot proposal (answer.PromiseFrom reports) plan = ⊥
 
 -- the Accept that a promise leads to
 abbrev pub accept_of : ℕ → Option (ℕ × Ballot × Value) → List Message
@@ -185,7 +188,7 @@ also_learns views call = with_learner_calls views (views.learner_calls ++ call �
 
 -- What a body of this sender and slot makes the part in agreement do of a node that has seen its round. What waits at the
 -- node stays as it is: whether what was learned concerns it is not asked here.
-abbrev pub PartIsDue : Config → ℕ → Views → (sender slot : ℕ) → Body → Plan → Type 0
+abbrev pub PartIsDue : AgreementConfig → ℕ → Views → (sender slot : ℕ) → Body → Plan → Type 0
 PartIsDue config me views sender slot (Prepare ballot) plan =
     (old new : Standing) × (reply : Answer) × IsRestored views.records old × Prepares old new slot ballot reply
     × ReplyToPrepare me views slot ballot reply plan
@@ -233,11 +236,11 @@ BodyKeeps records slot (Decided value) kept = kept ≡ None
 BodyKeeps records slot Ask kept = kept ≡ None
 
 -- and a message, of which nothing is kept where it is none of the configuration's
-abbrev pub MessageKeeps : Config → Views → Message → Option Record → Type 0
+abbrev pub MessageKeeps : AgreementConfig → Views → Message → Option Record → Type 0
 MessageKeeps config views m kept =
     (IsMessageOf config m × BodyKeeps views.records m.slot m.body kept)
     ⊎ ((IsMessageOf config m → ⊥) × (kept ≡ None))
 
 -- and a tick: that of the attempt which begins, if one does
-abbrev pub TickKeeps : Config → ℕ → Views → ℕ → Option Record → Type 0
+abbrev pub TickKeeps : AgreementConfig → ℕ → Views → ℕ → Option Record → Type 0
 TickKeeps config me views left kept = (due : Due) × TickIsDue config me views left due × (kept ≡ record_due due)

@@ -4,11 +4,11 @@ use Rattle.std.specs.Prelude.{◌≡◌, ℕ, ◌<◌, List, [], length, slice_g
 use Rattle.ballots.specs.Majority.{tally}
 use Rattle.ballots.specs.declared.value.Value.{Value}
 use Rattle.ballots.specs.declared.record.Record.{Record}
-use Rattle.proposer.specs.Call.{Call as ProposerCall}
-use Rattle.learner.specs.Calls.{Call as LearnerCall, IsLearned}
+use Rattle.proposer.specs.Call.{ProposerCall}
+use Rattle.learner.specs.Calls.{LearnerCall, IsLearned}
 
 -- how many members agree, and how many slots there are
-pub record Config : Type 0 where
+pub record AgreementConfig : Type 0 where
   pub members : ℕ
   pub slot_limit : ℕ
 

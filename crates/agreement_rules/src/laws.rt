@@ -17,12 +17,12 @@ ghost use Rattle.ballots.specs.declared.message.Body.{Body};
 ghost use Rattle.ballots.specs.declared.message.Body.TheVariants as body;
 ghost use Rattle.acceptor.specs.Standing.{Standing};
 ghost use Rattle.acceptor.specs.Restored.{IsRestored, IsHighestRound};
-ghost use Rattle.proposer.specs.Call.{Begun, Promise, Call as Asked, Begins, Promises};
+ghost use Rattle.proposer.specs.Call.{OneSlot, Begun, Promise, ProposerCall as Asked, Begins, Promises};
 ghost use Rattle.proposer.specs.Choosing.{reports_of, Chooses};
 ghost use Rattle.proposer.specs.Attempting.{IsOpen, Completes, counted};
 ghost use Rattle.proposer.specs.Promised.{MajorityPromised};
-ghost use Rattle.learner.specs.Calls.{Call, IsLearned};
-ghost use Rattle.agreement_rules.specs.Views.{Config, Views, started_with, with_waiting};
+ghost use Rattle.learner.specs.Calls.{LearnerCall, IsLearned};
+ghost use Rattle.agreement_rules.specs.Views.{AgreementConfig, Views, started_with, with_waiting};
 ghost use Rattle.agreement_rules.specs.Views.{IsFree, IsFreeAfter, HasPrefix};
 ghost use Rattle.agreement_rules.specs.Due.{Refusal, OutOfRange, OutOfMemory, Plan, Due, Refuses, Plans};
 ghost use Rattle.agreement_rules.specs.Due.{Attempts, AimIsDue, TickIsDue, IsMessageOf, round_in, has_seen, PartIsDue};
@@ -64,9 +64,9 @@ pub fn what_waits_changes_alone()
 /// What was learned slot by slot has one prefix, the values up to the first gap (Lamport, *Paxos Made Simple*, section
 /// 3), and one free slot that leaves so many free ones below it.
 pub fn prefixes_are_one()
-    ensures prefix { (members : ℕ) (calls : List Call) (xs ys : List Value)
+    ensures prefix { (members : ℕ) (calls : List LearnerCall) (xs ys : List Value)
         → HasPrefix members calls xs → HasPrefix members calls ys → xs ≡ ys }
-    ensures free_slot { (members : ℕ) (calls : List Call) (count slot other : ℕ)
+    ensures free_slot { (members : ℕ) (calls : List LearnerCall) (count slot other : ℕ)
         → IsFreeAfter members calls count slot → IsFreeAfter members calls count other → slot ≡ other }
 {
     learned_is_one();
@@ -75,9 +75,9 @@ pub fn prefixes_are_one()
 /// Whatever was told, it cannot be that nothing is a prefix, or that no free slot leaves so many free ones below it:
 /// behind all slots that were told of, each is free.
 pub fn prefixes_and_free_slots_exist()
-    ensures prefix { (members : ℕ) (calls : List Call)
+    ensures prefix { (members : ℕ) (calls : List LearnerCall)
         → ((values : List Value) → HasPrefix members calls values → ⊥) → ⊥ }
-    ensures free_slot { (members : ℕ) (calls : List Call) (count : ℕ)
+    ensures free_slot { (members : ℕ) (calls : List LearnerCall) (count : ℕ)
         → ((slot : ℕ) → IsFreeAfter members calls count slot → ⊥) → ⊥ }
 {
     learned_is_decided_or_chosen();
@@ -95,15 +95,15 @@ pub fn records_leave_a_standing()
 /// What is due of a node is one thing, by what the node has: one answer to a tick, one plan for a message's body, and
 /// one record, or none.
 pub fn due_is_one()
-    ensures tick { (config : Config) (me : ℕ) (views : Views) (left : ℕ) (a b : Due)
+    ensures tick { (config : AgreementConfig) (me : ℕ) (views : Views) (left : ℕ) (a b : Due)
         → TickIsDue config me views left a → TickIsDue config me views left b → a ≡ b }
-    ensures body { (config : Config) (me : ℕ) (views : Views) (sender slot : ℕ) (said : Body) (a b : Plan)
+    ensures body { (config : AgreementConfig) (me : ℕ) (views : Views) (sender slot : ℕ) (said : Body) (a b : Plan)
         → PartIsDue config me views sender slot said a → PartIsDue config me views sender slot said b → a ≡ b }
     ensures body_record { (records : List Kept) (slot : ℕ) (said : Body) (a b : Option Kept)
         → BodyKeeps records slot said a → BodyKeeps records slot said b → a ≡ b }
-    ensures message_record { (config : Config) (views : Views) (m : Message) (a b : Option Kept)
+    ensures message_record { (config : AgreementConfig) (views : Views) (m : Message) (a b : Option Kept)
         → MessageKeeps config views m a → MessageKeeps config views m b → a ≡ b }
-    ensures tick_record { (config : Config) (me : ℕ) (views : Views) (left : ℕ) (a b : Option Kept)
+    ensures tick_record { (config : AgreementConfig) (me : ℕ) (views : Views) (left : ℕ) (a b : Option Kept)
         → TickKeeps config me views left a → TickKeeps config me views left b → a ≡ b }
 {
     learned_is_one();
@@ -115,16 +115,16 @@ pub fn due_is_one()
 /// It cannot be that nothing is due of a node: to a message's body, whatever it says, and of records. To a tick
 /// something is due as long as nothing was learned for the slot at the limit, which is none of the configuration's.
 pub fn something_is_due()
-    ensures tick { (config : Config) (me : ℕ) (views : Views) (left : ℕ)
+    ensures tick { (config : AgreementConfig) (me : ℕ) (views : Views) (left : ℕ)
         → IsFree config.members views.learner_calls config.slot_limit
         → ((due : Due) → TickIsDue config me views left due → ⊥) → ⊥ }
-    ensures body { (config : Config) (me : ℕ) (views : Views) (sender slot : ℕ) (said : Body)
+    ensures body { (config : AgreementConfig) (me : ℕ) (views : Views) (sender slot : ℕ) (said : Body)
         → ((plan : Plan) → PartIsDue config me views sender slot said plan → ⊥) → ⊥ }
     ensures body_record { (records : List Kept) (slot : ℕ) (said : Body)
         → (kept : Option Kept) × BodyKeeps records slot said kept }
-    ensures message_record { (config : Config) (views : Views) (m : Message)
+    ensures message_record { (config : AgreementConfig) (views : Views) (m : Message)
         → ((kept : Option Kept) → MessageKeeps config views m kept → ⊥) → ⊥ }
-    ensures tick_record { (config : Config) (me : ℕ) (views : Views) (left : ℕ)
+    ensures tick_record { (config : AgreementConfig) (me : ℕ) (views : Views) (left : ℕ)
         → IsFree config.members views.learner_calls config.slot_limit
         → ((kept : Option Kept) → TickKeeps config me views left kept → ⊥) → ⊥ }
 {
@@ -138,25 +138,25 @@ pub fn something_is_due()
 /// there on (Lamport, *Paxos Made Simple*, section 3). It leaves no more than seven free slots to others, and takes no
 /// memory.
 pub fn ticks_serve_what_waits()
-    ensures waiting { (config : Config) (me : ℕ) (views : Views) (left : ℕ) (plan : Plan) (text : List ℕ)
+    ensures waiting { (config : AgreementConfig) (me : ℕ) (views : Views) (left : ℕ) (plan : Plan) (text : List ℕ)
         (others : List (List ℕ)) → views.waiting ≡ text ∷ others → TickIsDue config me views left (Plans plan)
         → (slot : ℕ) × IsFreeAfter config.members views.learner_calls left slot
         × AimIsDue config me views (Attempts slot (Upload text)) (Plans plan) }
-    ensures gap { (config : Config) (me : ℕ) (views : Views) (left : ℕ) (plan : Plan) (values : List Value)
+    ensures gap { (config : AgreementConfig) (me : ℕ) (views : Views) (left : ℕ) (plan : Plan) (values : List Value)
         (slot : ℕ) (value : Value) → views.waiting ≡ [] → HasPrefix config.members views.learner_calls values
         → length values < slot → IsLearned config.members views.learner_calls slot value
         → TickIsDue config me views left (Plans plan)
         → AimIsDue config me views (Attempts (length values) Noop) (Plans plan) }
-    ensures no_gap { (config : Config) (me : ℕ) (views : Views) (left : ℕ) (plan : Plan) (values : List Value)
+    ensures no_gap { (config : AgreementConfig) (me : ℕ) (views : Views) (left : ℕ) (plan : Plan) (values : List Value)
         → views.waiting ≡ [] → HasPrefix config.members views.learner_calls values
         → ((slot : ℕ) (value : Value) → length values < slot
         → IsLearned config.members views.learner_calls slot value → ⊥)
         → TickIsDue config me views left (Plans plan) → (plan.kept ≡ None) × (plan.after ≡ views)
         × (((length values < config.slot_limit) × (plan.sends ≡ message me (length values) body.Ask ∷ []))
         ⊎ ((length values ≡ config.slot_limit) × (plan.sends ≡ []))) }
-    ensures out_of_range { (config : Config) (me : ℕ) (views : Views) (left : ℕ)
+    ensures out_of_range { (config : AgreementConfig) (me : ℕ) (views : Views) (left : ℕ)
         → TickIsDue config me views left (Refuses OutOfRange) ↔ (7 < left) }
-    ensures memory { (config : Config) (me : ℕ) (views : Views) (left : ℕ)
+    ensures memory { (config : AgreementConfig) (me : ℕ) (views : Views) (left : ℕ)
         → TickIsDue config me views left (Refuses OutOfMemory) → ⊥ }
 {
     learned_is_one();
@@ -166,7 +166,7 @@ pub fn ticks_serve_what_waits()
 /// a slot below the limit (Lamport, *Paxos Made Simple*, sections 2.2 and 2.5): a record of the ballot is kept, a
 /// Prepare goes out, and the node's proposer has it open. What else the node has stays as it is.
 pub fn attempts_begin_above_all_rounds()
-    ensures { (config : Config) (me : ℕ) (views : Views) (slot : ℕ) (value : Value) (plan : Plan)
+    ensures { (config : AgreementConfig) (me : ℕ) (views : Views) (slot : ℕ) (value : Value) (plan : Plan)
         → AimIsDue config me views (Attempts slot value) (Plans plan)
         → (ballot : Ballot) × (ballot.node ≡ me) × (views.seen_round < ballot.round)
         × ((highest : ℕ) → IsHighestRound views.records highest → highest < ballot.round)
@@ -178,6 +178,7 @@ pub fn attempts_begin_above_all_rounds()
           waiting = views.waiting;
           proposer_calls = views.proposer_calls ++ Begins (record {
             slot = slot;
+            reach = OneSlot;
             seen_round = views.seen_round;
             candidate = value;
             ballot = ballot;
@@ -191,7 +192,7 @@ pub fn attempts_begin_above_all_rounds()
 /// A message is taken exactly where its sender is a member, its slot is below the limit, and each ballot that it names
 /// is a member's.
 pub fn messages_are_of_members()
-    ensures { (config : Config) (m : Message) → IsMessageOf config m ↔ ((m.sender < config.members)
+    ensures { (config : AgreementConfig) (m : Message) → IsMessageOf config m ↔ ((m.sender < config.members)
         × (m.slot < config.slot_limit)
         × ((ballot : Ballot) → Names m.body ballot → ballot.node < config.members)) }
 {}
@@ -221,14 +222,14 @@ pub fn rounds_are_of_named_ballots()
 /// Accept is granted if its ballot is what its slot has promised or above, and else is refused likewise (Lamport,
 /// *Paxos Made Simple*, section 2.2).
 pub fn answers_are_by_the_records()
-    ensures prepare { (config : Config) (me : ℕ) (views : Views) (standing : Standing) (sender slot : ℕ)
+    ensures prepare { (config : AgreementConfig) (me : ℕ) (views : Views) (standing : Standing) (sender slot : ℕ)
         (ballot : Ballot) (plan : Plan) → IsRestored views.records standing
         → PartIsDue config me views sender slot (body.Prepare ballot) plan
         → ((plan.sends ≡ message me slot (body.Promise ballot (standing.accepted slot)) ∷ [])
         × ((held : Ballot) → standing.promised slot ≡ Some held → IsBelow held ballot))
         ⊎ ((promised : Ballot) × (plan.sends ≡ message me slot (body.Nack ballot promised) ∷ [])
         × (standing.promised slot ≡ Some promised) × (IsBelow promised ballot → ⊥)) }
-    ensures accept { (config : Config) (me : ℕ) (views : Views) (standing : Standing) (sender slot : ℕ)
+    ensures accept { (config : AgreementConfig) (me : ℕ) (views : Views) (standing : Standing) (sender slot : ℕ)
         (proposal : Acceptance) (plan : Plan) → IsRestored views.records standing
         → PartIsDue config me views sender slot (body.Accept proposal) plan
         → ((plan.sends ≡ message me slot (body.Accepted proposal) ∷ [])
@@ -243,7 +244,7 @@ pub fn answers_are_by_the_records()
 /// of the attempt: a majority has promised, and the value is the one that their reports ask for (Lamport, *Paxos Made
 /// Simple*, section 2.2). Any other Promise is not answered.
 pub fn an_accept_completes_its_attempt()
-    ensures { (config : Config) (me : ℕ) (views : Views) (promise : Promise) (plan : Plan)
+    ensures { (config : AgreementConfig) (me : ℕ) (views : Views) (promise : Promise) (plan : Plan)
         → PartIsDue config me views promise.sender promise.slot (body.Promise promise.ballot promise.report) plan
         → ((plan.sends ≡ []) × ((begun : Begun) (since : List Asked) → IsOpen views.proposer_calls begun since
         → Completes config.members begun since promise → ⊥))
@@ -259,7 +260,7 @@ pub fn an_accept_completes_its_attempt()
 /// One that asks from a slot on is told what was learned from there on, up to the first gap: the values of that slot,
 /// of the next, and so on, and nothing else (Lamport, *Paxos Made Simple*, section 2.3).
 pub fn an_ask_is_answered_by_the_prefix()
-    ensures { (config : Config) (me : ℕ) (views : Views) (sender slot : ℕ) (values : List Value) (plan : Plan)
+    ensures { (config : AgreementConfig) (me : ℕ) (views : Views) (sender slot : ℕ) (values : List Value) (plan : Plan)
         → HasPrefix config.members views.learner_calls values → PartIsDue config me views sender slot body.Ask plan
         → (length plan.sends ≡ min 16 (length values - slot))
         × ((k : ℕ) → k < length plan.sends → (value : Value) × (slice_get values (slot + k) ≡ Some value)
@@ -272,18 +273,18 @@ pub fn an_ask_is_answered_by_the_prefix()
 /// A node sends in its own name alone; and what it sends of a message, but for an Ask, is for that message's slot. It
 /// answers no Nack, no Accepted and no Decided.
 pub fn replies_are_its_own()
-    ensures body { (config : Config) (me : ℕ) (views : Views) (sender slot : ℕ) (said : Body) (plan : Plan)
+    ensures body { (config : AgreementConfig) (me : ℕ) (views : Views) (sender slot : ℕ) (said : Body) (plan : Plan)
         (m : Message) → PartIsDue config me views sender slot said plan → Contains plan.sends m → m.sender ≡ me }
-    ensures tick { (config : Config) (me : ℕ) (views : Views) (left : ℕ) (plan : Plan) (m : Message)
+    ensures tick { (config : AgreementConfig) (me : ℕ) (views : Views) (left : ℕ) (plan : Plan) (m : Message)
         → TickIsDue config me views left (Plans plan) → Contains plan.sends m → m.sender ≡ me }
-    ensures slot { (config : Config) (me : ℕ) (views : Views) (sender slot : ℕ) (said : Body) (plan : Plan)
+    ensures slot { (config : AgreementConfig) (me : ℕ) (views : Views) (sender slot : ℕ) (said : Body) (plan : Plan)
         (m : Message) → (said ≡ body.Ask → ⊥) → PartIsDue config me views sender slot said plan
         → Contains plan.sends m → m.slot ≡ slot }
-    ensures nack { (config : Config) (me : ℕ) (views : Views) (sender slot : ℕ) (ballot promised : Ballot) (plan : Plan)
+    ensures nack { (config : AgreementConfig) (me : ℕ) (views : Views) (sender slot : ℕ) (ballot promised : Ballot) (plan : Plan)
         → PartIsDue config me views sender slot (body.Nack ballot promised) plan → plan.sends ≡ [] }
-    ensures accepted { (config : Config) (me : ℕ) (views : Views) (sender slot : ℕ) (told : Acceptance) (plan : Plan)
+    ensures accepted { (config : AgreementConfig) (me : ℕ) (views : Views) (sender slot : ℕ) (told : Acceptance) (plan : Plan)
         → PartIsDue config me views sender slot (body.Accepted told) plan → plan.sends ≡ [] }
-    ensures decided { (config : Config) (me : ℕ) (views : Views) (sender slot : ℕ) (value : Value) (plan : Plan)
+    ensures decided { (config : AgreementConfig) (me : ℕ) (views : Views) (sender slot : ℕ) (value : Value) (plan : Plan)
         → PartIsDue config me views sender slot (body.Decided value) plan → plan.sends ≡ [] }
 {
     majorities_are_of_members();
@@ -292,24 +293,24 @@ pub fn replies_are_its_own()
 /// The record that is due at a message or a tick is the one that its plan keeps; of a message that is not taken none
 /// is.
 pub fn records_are_those_of_plans()
-    ensures body { (config : Config) (me : ℕ) (views : Views) (sender slot : ℕ) (said : Body) (plan : Plan)
+    ensures body { (config : AgreementConfig) (me : ℕ) (views : Views) (sender slot : ℕ) (said : Body) (plan : Plan)
         (kept : Option Kept) → PartIsDue config me views sender slot said plan
         → BodyKeeps views.records slot said kept → plan.kept ≡ kept }
-    ensures body_keeps { (config : Config) (me : ℕ) (views : Views) (sender slot : ℕ) (said : Body) (plan : Plan)
+    ensures body_keeps { (config : AgreementConfig) (me : ℕ) (views : Views) (sender slot : ℕ) (said : Body) (plan : Plan)
         → PartIsDue config me views sender slot said plan → BodyKeeps views.records slot said plan.kept }
-    ensures message { (config : Config) (me : ℕ) (views : Views) (m : Message) (plan : Plan) (kept : Option Kept)
+    ensures message { (config : AgreementConfig) (me : ℕ) (views : Views) (m : Message) (plan : Plan) (kept : Option Kept)
         → IsMessageOf config m → PartIsDue config me (has_seen views m) m.sender m.slot m.body plan
         → MessageKeeps config views m kept → plan.kept ≡ kept }
-    ensures message_keeps { (config : Config) (me : ℕ) (views : Views) (m : Message) (plan : Plan)
+    ensures message_keeps { (config : AgreementConfig) (me : ℕ) (views : Views) (m : Message) (plan : Plan)
         → IsMessageOf config m → PartIsDue config me (has_seen views m) m.sender m.slot m.body plan
         → MessageKeeps config views m plan.kept }
-    ensures not_taken { (config : Config) (views : Views) (m : Message) (kept : Option Kept)
+    ensures not_taken { (config : AgreementConfig) (views : Views) (m : Message) (kept : Option Kept)
         → (IsMessageOf config m → ⊥) → MessageKeeps config views m kept → kept ≡ None }
-    ensures tick { (config : Config) (me : ℕ) (views : Views) (left : ℕ) (plan : Plan) (kept : Option Kept)
+    ensures tick { (config : AgreementConfig) (me : ℕ) (views : Views) (left : ℕ) (plan : Plan) (kept : Option Kept)
         → TickIsDue config me views left (Plans plan) → TickKeeps config me views left kept → plan.kept ≡ kept }
-    ensures tick_keeps { (config : Config) (me : ℕ) (views : Views) (left : ℕ) (plan : Plan)
+    ensures tick_keeps { (config : AgreementConfig) (me : ℕ) (views : Views) (left : ℕ) (plan : Plan)
         → TickIsDue config me views left (Plans plan) → TickKeeps config me views left plan.kept }
-    ensures refused { (config : Config) (me : ℕ) (views : Views) (left : ℕ) (refusal : Refusal) (kept : Option Kept)
+    ensures refused { (config : AgreementConfig) (me : ℕ) (views : Views) (left : ℕ) (refusal : Refusal) (kept : Option Kept)
         → TickIsDue config me views left (Refuses refusal) → TickKeeps config me views left kept → kept ≡ None }
 {
     learned_is_one();
@@ -321,11 +322,11 @@ pub fn records_are_those_of_plans()
 /// A node keeps the record that has to stand before what it sends goes out, and keeps no other: its records are those
 /// of before with that one behind them (Lamport, *Paxos Made Simple*, section 2.5).
 pub fn plans_keep_what_they_send()
-    ensures body { (config : Config) (me : ℕ) (views : Views) (sender slot : ℕ) (said : Body) (plan : Plan)
+    ensures body { (config : AgreementConfig) (me : ℕ) (views : Views) (sender slot : ℕ) (said : Body) (plan : Plan)
         → PartIsDue config me views sender slot said plan
         → (filter_map record_of plan.sends ≡ cons_option plan.kept [])
         × (plan.after.records ≡ views.records ++ cons_option plan.kept []) }
-    ensures tick { (config : Config) (me : ℕ) (views : Views) (left : ℕ) (plan : Plan)
+    ensures tick { (config : AgreementConfig) (me : ℕ) (views : Views) (left : ℕ) (plan : Plan)
         → TickIsDue config me views left (Plans plan)
         → (filter_map record_of plan.sends ≡ cons_option plan.kept [])
         × (plan.after.records ≡ views.records ++ cons_option plan.kept []) }
@@ -335,7 +336,7 @@ pub fn plans_keep_what_they_send()
 /// Promise and a Nack are for its proposer, an Accepted and a Decided for its learner. What else it has stays as it
 /// is.
 pub fn messages_are_told_to_their_part()
-    ensures { (config : Config) (me : ℕ) (views : Views) (sender slot : ℕ) (said : Body) (plan : Plan)
+    ensures { (config : AgreementConfig) (me : ℕ) (views : Views) (sender slot : ℕ) (said : Body) (plan : Plan)
         → PartIsDue config me views sender slot said plan → plan.after ≡ record {
           records = views.records ++ cons_option plan.kept [];
           seen_round = views.seen_round;

@@ -129,22 +129,22 @@ abbrev pub IsInRange : Message → Type 0
 IsInRange m = (m.sender ≤ MAX_NODE) × (m.slot ≤ MAX_SLOT) × IsBodyInRange m.body
 
 -- what is copied where such a message is read: the bytes of an upload
-abbrev pub IsUpload : Value → Type 0
-IsUpload Noop = ⊥
-IsUpload (Upload bytes) = Unit {0}
+abbrev pub IsUploadValue : Value → Type 0
+IsUploadValue Noop = ⊥
+IsUploadValue (Upload bytes) = Unit {0}
 
 abbrev pub ReportsUpload : Option Acceptance → Type 0
 ReportsUpload None = ⊥
-ReportsUpload (Some report) = IsUpload report.value
+ReportsUpload (Some report) = IsUploadValue report.value
 
 abbrev pub CarriesUpload : Body → Type 0
 CarriesUpload (Prepare ballot) = ⊥
 CarriesUpload (Promise ballot report) = ReportsUpload report
 CarriesUpload (Nack ballot promised) = ⊥
-CarriesUpload (Accept proposal) = IsUpload proposal.value
-CarriesUpload (Accepted acceptance) = IsUpload acceptance.value
+CarriesUpload (Accept proposal) = IsUploadValue proposal.value
+CarriesUpload (Accepted acceptance) = IsUploadValue acceptance.value
 CarriesUpload Ask = ⊥
-CarriesUpload (Decided value) = IsUpload value
+CarriesUpload (Decided value) = IsUploadValue value
 
 abbrev pub HasUpload : Message → Type 0
 HasUpload m = CarriesUpload m.body

@@ -13,7 +13,7 @@ use Rattle.ballots.specs.declared.record.Record.TheVariants.{Began, Promised, Ac
 use Rattle.ballots.specs.declared.fault.MessageFault.{MessageFault}
 use Rattle.ballots.specs.declared.fault.MessageFault.TheVariants.{Wire, BadKind, OutOfMemory}
 use Rattle.ballots.specs.Ballot.{Ballot, IsBallot}
-use Rattle.ballots.specs.Message.{value_bytes, IsAcceptanceInRange, IsUpload, MeansBallot, MeansAcceptance, Misfit, IsAbove, BallotFault, ValueFault, WireStands, number_field, written}
+use Rattle.ballots.specs.Message.{value_bytes, IsAcceptanceInRange, IsUploadValue, MeansBallot, MeansAcceptance, Misfit, IsAbove, BallotFault, ValueFault, WireStands, number_field, written}
 
 -- what each field of a record means: the last one given or its default, or nothing where one is of another wire type
 pub record RecordParts : Type 0 where
@@ -55,7 +55,7 @@ IsRecordInRange (Accepted slot acceptance) = (slot ≤ MAX_SLOT) × IsAcceptance
 abbrev pub KeepsUpload : Record → Type 0
 KeepsUpload (Began ballot) = ⊥
 KeepsUpload (Promised slot ballot) = ⊥
-KeepsUpload (Accepted slot acceptance) = IsUpload acceptance.value
+KeepsUpload (Accepted slot acceptance) = IsUploadValue acceptance.value
 
 -- the text is a list of fields that mean the record
 pub record IsRecordText (text : List ℕ) (r : Record) : Type 0 where

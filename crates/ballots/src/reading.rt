@@ -2,7 +2,7 @@
 
 ghost use Rattle.std.specs.Prelude.{◌≡◌, ◌≤◌, IfOk};
 ghost use Rattle.std.specs.Option.{option_map};
-ghost use Rattle.ballots.specs.Message.{IsUpload};
+ghost use Rattle.ballots.specs.Message.{IsUploadValue};
 ghost use Rattle.ballots.specs.MessageReading.{Gives, TakesNone, known, within, ballot_at as ballot_meant, value_at as value_meant, acceptance_at as acceptance_meant};
 
 use crate::acceptance::Acceptance;
@@ -74,7 +74,7 @@ pub(crate) fn ballot_at(round: Option<u64>, node: Option<u64>) -> Result<Ballot,
 /// The value, copied once its length is known to be within its limit.
 #[tactic(auto, using(crate::proofs::Steps::steps), unfolding(crate::specs::MessageReading::value_at, crate::specs::MessageReading::known))]
 pub(crate) fn value_at(alloc: Global, found: Option<&[u8]>) -> Result<Value, MessageFault>
-    ensures { Gives IsUpload result (value_meant (option_map (λ bytes. bytes.now) found.entry)) }
+    ensures { Gives IsUploadValue result (value_meant (option_map (λ bytes. bytes.now) found.entry)) }
 {
     let Some(found) = found else {
         return Err(MessageFault::Wire(WireFault::BadWireType));
@@ -99,7 +99,7 @@ pub(crate) fn acceptance_at(
     ballot: (Option<u64>, Option<u64>),
     value: Option<&[u8]>,
 ) -> Result<Acceptance, MessageFault>
-    ensures { Gives (λ a. IsUpload a.value) result
+    ensures { Gives (λ a. IsUploadValue a.value) result
         (acceptance_meant ballot.0 ballot.1 (option_map (λ bytes. bytes.now) value.entry)) }
 {
     let ballot = ballot_at(ballot.0, ballot.1)?;

@@ -7,8 +7,8 @@
 //! body that is written, `Written` which rows can be written and the cell that is read of a column of them, and `Examples`
 //! batches that were worked out by hand.
 //!
-//! No call reads or writes a batch yet: [`BatchFault`] has what will be told, and the functions of `laws`, which do
-//! nothing, have laws of the definitions as their contracts.
+//! The crates above read and write batches: [`BatchFault`] says what is wrong with one that can't be read, and the functions
+//! of `laws`, which do nothing, have laws of the definitions as their contracts.
 #![tactic(auto)]
 
 mod fault;

@@ -12,7 +12,7 @@ use Rattle.downloads.specs.Taken.{GivesDownload, HasDownload, downloaded_in}
 use Rattle.client_calls.specs.Requests.{get_request}
 use Rattle.json_client.specs.declared.fault.RowCallFault.TheVariants as rows
 use Rattle.json_client.specs.Prints.{Prints, batches_in}
-use Rattle.client_connections.specs.Events.{Event}
+use Rattle.client_connections.specs.Events.{ConnectionEvent}
 use Rattle.client_command.specs.declared.fault.CommandFault.{CommandFault}
 use Rattle.client_command.specs.declared.fault.CommandFault.TheVariants as faults
 use Rattle.client_command.specs.Calls.{Calls}
@@ -38,7 +38,7 @@ module _ (fields : Forest) (batches : List Rows) where
 
 -- ---- a version
 
-module _ (address : SocketAddrV4) (asked : TableVersion) (old new : Option (List Event)) (before after : Option (List ℕ)) where
+module _ (address : SocketAddrV4) (asked : TableVersion) (old new : Option (List ConnectionEvent)) (before after : Option (List ℕ)) where
   -- it came, and its lines were printed, or a beginning of them
   pub came : (download : Download) (result : Result (Unit {0}) CommandFault) → IfErr result IsOfRows → Calls address (get_request asked) GivesDownload HasDownload (Ok download) old new
       → WhereKnown before after (PrintsRows (schema_of download.schema).fields (batches_in (downloaded_in download)) result) → GetsAt address asked result old new before after

@@ -9,7 +9,7 @@ use Rattle.client_calls.specs.Results.{GivesVersion, HasVersion}
 use Rattle.json_client.specs.declared.fault.RowCallFault.{RowCallFault}
 use Rattle.json_client.specs.declared.fault.RowCallFault.TheVariants as rows
 use Rattle.json_client.specs.Puts.{IsUploadOfRows, MakesNoUpload}
-use Rattle.client_connections.specs.Events.{Event}
+use Rattle.client_connections.specs.Events.{ConnectionEvent}
 use Rattle.client_command.specs.declared.fault.CommandFault.{CommandFault}
 use Rattle.client_command.specs.declared.fault.CommandFault.TheVariants as faults
 use Rattle.client_command.specs.Faults.{fault_of_rows}
@@ -19,19 +19,19 @@ use Rattle.client_command.specs.Puts.{PutsAt}
 
 module _ (address : SocketAddrV4) (table id : List ℕ) (given : Option SchemaTree) (text : List ℕ) where
   -- the lines make no upload
-  unmade : (fault : RowCallFault) (log : Option (List Event)) (held : Option (List ℕ)) → MakesNoUpload table id given text fault
+  unmade : (fault : RowCallFault) (log : Option (List ConnectionEvent)) (held : Option (List ℕ)) → MakesNoUpload table id given text fault
       → PutsAt address table id given text (Err (fault_of_rows fault)) log log held held
   unmade (rows.Call fault) log held none = absurd none
   unmade (rows.Rows fault) log held none = (none, (refl, refl))
   unmade (rows.Upload fault) log held none = (none, (refl, refl))
   unmade rows.Output log held none = absurd none
 
-  pub not_made : (fault : RowCallFault) (told : CommandFault) (log : Option (List Event)) (held : Option (List ℕ)) → MakesNoUpload table id given text fault → told ≡ fault_of_rows fault
+  pub not_made : (fault : RowCallFault) (told : CommandFault) (log : Option (List ConnectionEvent)) (held : Option (List ℕ)) → MakesNoUpload table id given text fault → told ≡ fault_of_rows fault
       → PutsAt address table id given text (Err told) log log held held
   not_made fault told log held none is =
       subst (λ (f : CommandFault). PutsAt address table id given text (Err f) log log held held) (sym is) (unmade fault log held none)
 
-  module _ (upload : Upload) (made : IsUploadOfRows table id given text upload) (old new : Option (List Event)) (before after : Option (List ℕ)) where
+  module _ (upload : Upload) (made : IsUploadOfRows table id given text upload) (old new : Option (List ConnectionEvent)) (before after : Option (List ℕ)) where
     -- the upload was taken, and its line was printed, or a beginning of it
     taken_as : (version : ℕ) (result : Result (Unit {0}) CommandFault) → IfErr result IsOfLines → Calls address (put_request upload) (GivesVersion id) (HasVersion id) (Ok version) old new
         → WhereKnown before after (WritesText (put_line id version) result) → PutsAt address table id given text result old new before after
@@ -53,7 +53,7 @@ module _ (address : SocketAddrV4) (table id : List ℕ) (given : Option SchemaTr
     taken version result kind put told =
         taken_as version result kind (subst (λ (i : List ℕ). Calls address (put_request upload) (GivesVersion i) (HasVersion i) (Ok version) old new) made.id_is put) told
 
-  module _ (upload : Upload) (made : IsUploadOfRows table id given text upload) (old new : Option (List Event)) (held : Option (List ℕ)) where
+  module _ (upload : Upload) (made : IsUploadOfRows table id given text upload) (old new : Option (List ConnectionEvent)) (held : Option (List ℕ)) where
     -- the upload was not taken, or what it made was not told
     vain_as : (fault : CommandFault) → Calls {T = ℕ} address (put_request upload) (GivesVersion id) (HasVersion id) (Err fault) old new
         → PutsAt address table id given text (Err fault) old new held held

@@ -2,7 +2,7 @@
 use Rattle.std.proofs.Common.{◌≡◌, ◌⊎◌, inl, inr, ℕ, List, Option, Result, Ok, Err, refl, ap, subst}
 use Rattle.std.specs.declared.net.socket_addr.SocketAddrV4.{SocketAddrV4}
 use Rattle.grpc_frames.specs.FrameFaults.{WhereKnown}
-use Rattle.client_connections.specs.Events.{Event}
+use Rattle.client_connections.specs.Events.{ConnectionEvent}
 use Rattle.client_calls.specs.declared.client_fault.ClientFault.TheVariants.{BadAnswer}
 use Rattle.client_command.specs.declared.fault.CommandFault.{CommandFault}
 use Rattle.client_command.specs.declared.fault.CommandFault.TheVariants.{Call, OutOfMemory}
@@ -11,7 +11,7 @@ use Rattle.client_command.specs.Writing.{WritesText}
 use Rattle.client_command.specs.Tellings.{TellsAt}
 
 module _ {T : Type 0} (address : SocketAddrV4) (request : List ℕ) (Gives : List (List ℕ) → T → Type 0) (IsResult : List (List ℕ) → Type 0) (IsTextOf : T → List ℕ → Type 0) (value : T)
-    (old new : Option (List Event)) (before : Option (List ℕ)) (told : Calls address request Gives IsResult (Ok value) old new) where
+    (old new : Option (List ConnectionEvent)) (before : Option (List ℕ)) (told : Calls address request Gives IsResult (Ok value) old new) where
   pub text_told : (text bytes : List ℕ) (result : Result (Unit {0}) CommandFault) (after : Option (List ℕ)) → IsTextOf value text → bytes ≡ text
       → WhereKnown before after (WritesText bytes result) → TellsAt address request Gives IsResult IsTextOf result old new before after
   text_told text bytes result after is same written = inl (record {

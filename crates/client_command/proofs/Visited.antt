@@ -15,7 +15,7 @@ use Rattle.table_types.specs.Ticket.{TableVersion}
 use Rattle.client_calls.specs.Requests.{get_request}
 use Rattle.client_calls.specs.Results.{GivesFrames, HasFrames}
 use Rattle.client_connections.specs.Addresses.{IsLocation}
-use Rattle.client_connections.specs.Events.{Event}
+use Rattle.client_connections.specs.Events.{ConnectionEvent}
 use Rattle.client_command.specs.declared.fault.CommandFault.{CommandFault}
 use Rattle.client_command.specs.declared.fault.CommandFault.TheVariants.{Differs}
 use Rattle.client_command.specs.Calls.{Calls}
@@ -24,7 +24,7 @@ use Rattle.client_command.proofs.Joined.{parts_at, parts_with}
 
 -- ---- one location
 
-module _ (asked : TableVersion) (frames uri : List ℕ) (address : SocketAddrV4) (others : Vec ℕ Global) (items : List ℕ) (old new : Option (List Event)) where
+module _ (asked : TableVersion) (frames uri : List ℕ) (address : SocketAddrV4) (others : Vec ℕ Global) (items : List ℕ) (old new : Option (List ConnectionEvent)) where
   pub compared : IsLocation uri address → Calls address (get_request asked) GivesFrames HasFrames (Ok others) old new → items ≡ others.items → (result : Result (Unit {0}) CommandFault)
       → MatchResult result (λ _. items ≡ frames) (λ fault. (fault ≡ Differs) × (items ≢ frames)) → ComparesAt asked frames uri result old new
   compared location gave same (Ok done) is = (address, location, others, sym same ∙ is, gave)
@@ -55,28 +55,28 @@ and_true true = refl
 and_true false = refl
 
 module _ (asked : TableVersion) (frames : List ℕ) where
-  visits_then : (xs ys : List (Values location_descriptor)) (rs ss : List (Result (Unit {0}) CommandFault)) (old mid new : Option (List Event)) → Visits asked frames xs rs old mid
+  visits_then : (xs ys : List (Values location_descriptor)) (rs ss : List (Result (Unit {0}) CommandFault)) (old mid new : Option (List ConnectionEvent)) → Visits asked frames xs rs old mid
       → Visits asked frames ys ss mid new → Visits asked frames (xs ++ ys) (rs ++ ss) old new
-  visits_then [] ys [] ss old mid new p q = subst (λ (log : Option (List Event)). Visits asked frames ys ss log new) p q
+  visits_then [] ys [] ss old mid new p q = subst (λ (log : Option (List ConnectionEvent)). Visits asked frames ys ss log new) p q
   visits_then [] ys (r ∷ rs) ss old mid new p q = absurd p
   visits_then (x ∷ xs) ys [] ss old mid new p q = absurd p
   visits_then (x ∷ xs) ys (r ∷ rs) ss old mid new p q = (p.0, p.1, visits_then xs ys rs ss p.0 mid new p.2 q)
 
   -- those so far were asked, and whether all gave the same
-  pub record VisitedSome (locations : List (Values location_descriptor)) (same : Bool) (old new : Option (List Event)) (before after : Option (List ℕ)) : Type 0 where
+  pub record VisitedSome (locations : List (Values location_descriptor)) (same : Bool) (old new : Option (List ConnectionEvent)) (before after : Option (List ℕ)) : Type 0 where
     pub outcomes : List (Result (Unit {0}) CommandFault)
     pub visits : Visits asked frames locations outcomes old new
     pub all : same ≡ list_all is_ok outcomes
     pub told : same ≡ true → Appends before after (same_text locations)
 
-  pub visited_none : (log : Option (List Event)) (held : Option (List ℕ)) → VisitedSome [] true log log held held
+  pub visited_none : (log : Option (List ConnectionEvent)) (held : Option (List ℕ)) → VisitedSome [] true log log held held
   visited_none log held = record { outcomes = []; visits = refl; all = refl; told = λ yes. appends_nothing held }
 
-  pub visited_all : (locations : List (Values location_descriptor)) (same : Bool) (old new : Option (List Event)) (before after : Option (List ℕ))
+  pub visited_all : (locations : List (Values location_descriptor)) (same : Bool) (old new : Option (List ConnectionEvent)) (before after : Option (List ℕ))
       → VisitedSome locations same old new before after → VisitsAll asked frames locations (Ok same) old new before after
   visited_all locations same old new before after v = (v.outcomes, v.visits, v.all, v.told)
 
-  module _ (xs : List Location) (i : ℕ) (x : Location) (lt : i < length xs) (is : x ≡ get_or xs i x) (same : Bool) (old mid new : Option (List Event)) (before between after : Option (List ℕ))
+  module _ (xs : List Location) (i : ℕ) (x : Location) (lt : i < length xs) (is : x ≡ get_or xs i x) (same : Bool) (old mid new : Option (List ConnectionEvent)) (before between after : Option (List ℕ))
       (so_far : VisitedSome (map location_values (take i xs)) same old mid before between) where
     -- one more was asked
     pub visited_more : (more : Bool) → VisitsOne asked frames (location_values x).0 (Ok more) mid new between after

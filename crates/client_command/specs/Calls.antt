@@ -2,7 +2,7 @@
 -- those of `client_calls`, and a connection is that of `client_connections`.
 use Rattle.std.specs.Prelude.{ℕ, List, [], ◌∷◌, Option, Result, Ok, Err}
 use Rattle.std.specs.declared.net.socket_addr.SocketAddrV4.{SocketAddrV4}
-use Rattle.client_connections.specs.Events.{Event, refused, Logs}
+use Rattle.client_connections.specs.Events.{ConnectionEvent, refused, Logs}
 use Rattle.client_connections.specs.Conversations.{Converses}
 use Rattle.client_calls.specs.Answers.{Receives, Requests}
 use Rattle.client_command.specs.declared.fault.CommandFault.{CommandFault}
@@ -10,8 +10,8 @@ use Rattle.client_command.specs.declared.fault.CommandFault.TheVariants as fault
 
 -- what was told by the server at this address of this request, whose answer gives a value where it is a result; or
 -- there was no connection to it
-abbrev pub Calls : {T : Type 0} → SocketAddrV4 → List ℕ → (List (List ℕ) → T → Type 0) → (List (List ℕ) → Type 0) → Result T CommandFault → Option (List Event)
-    → Option (List Event) → Type 0
+abbrev pub Calls : {T : Type 0} → SocketAddrV4 → List ℕ → (List (List ℕ) → T → Type 0) → (List (List ℕ) → Type 0) → Result T CommandFault → Option (List ConnectionEvent)
+    → Option (List ConnectionEvent) → Type 0
 Calls address request Gives IsResult (Ok value) old new =
     Converses address (Requests (Ok value) request) (Receives Gives IsResult (Ok value)) old new
 Calls {T = T} address request Gives IsResult (Err (faults.Call fault)) old new =

@@ -18,7 +18,7 @@ use Rattle.client_calls.specs.Answers.{Receives}
 use Rattle.client_calls.specs.Requests.{get_request, info_request}
 use Rattle.client_calls.specs.Results.{GivesFrames, GivesInfo, HasFrames, HasInfo}
 use Rattle.json_client.specs.Prints.{batches_in}
-use Rattle.client_connections.specs.Events.{Event}
+use Rattle.client_connections.specs.Events.{ConnectionEvent}
 use Rattle.client_command.specs.declared.fault.CommandFault.{CommandFault}
 use Rattle.client_command.specs.declared.fault.CommandFault.TheVariants.{Call, Differs, OutOfMemory}
 use Rattle.client_command.specs.Faults.{status_of}
@@ -51,20 +51,20 @@ outcome_of frames (Ok false) = Err Differs
 outcome_of frames (Err fault) = Err fault
 
 -- the server at the address gave frames, and the locations were asked for the same; or it gave none
-abbrev pub RedeemsEverywhere : SocketAddrV4 → TableVersion → List (Values location_descriptor) → Result (Vec ℕ Global) CommandFault → Option (List Event) → Option (List Event)
+abbrev pub RedeemsEverywhere : SocketAddrV4 → TableVersion → List (Values location_descriptor) → Result (Vec ℕ Global) CommandFault → Option (List ConnectionEvent) → Option (List ConnectionEvent)
     → Option (List ℕ) → Option (List ℕ) → Type 0
 RedeemsEverywhere address ticket locations result old new before after =
-    ((frames : Vec ℕ Global) × (mid : Option (List Event)) × Calls address (get_request ticket) GivesFrames HasFrames (Ok frames) old mid
+    ((frames : Vec ℕ Global) × (mid : Option (List ConnectionEvent)) × Calls address (get_request ticket) GivesFrames HasFrames (Ok frames) old mid
     × (visited : Result Bool CommandFault) × VisitsAll ticket frames.items locations visited mid new before after
     × (result ≡ outcome_of frames visited))
     ⊎ ((fault : CommandFault) × Calls {T = Vec ℕ Global} address (get_request ticket) GivesFrames HasFrames (Err fault) old new × (result ≡ Err fault)
     × (after ≡ before))
 
-module _ (address : SocketAddrV4) (table : List ℕ) (version : Option ℕ) (result : Result (Vec ℕ Global) CommandFault) (old new : Option (List Event)) (before after : Option (List ℕ)) where
+module _ (address : SocketAddrV4) (table : List ℕ) (version : Option ℕ) (result : Result (Vec ℕ Global) CommandFault) (old new : Option (List ConnectionEvent)) (before after : Option (List ℕ)) where
   -- the server told of the table, and its ticket was redeemed everywhere
   pub record RedeemsTold : Type 0 where
     pub info : FlightInfo
-    pub between : Option (List Event)
+    pub between : Option (List ConnectionEvent)
     pub informed : Calls address (info_request table) GivesInfo HasInfo (Ok info) old between
     pub ticket : TableVersion
     pub ticketed : TicketFor table version (info_values info) (Ok ticket)
@@ -108,7 +108,7 @@ PrintsFrames frames result before after =
     × WhereKnown before after (PrintsRows (schema_of download.schema).fields (batches_in (downloaded_in download)) result))
     ⊎ ((fault : CommandFault) × FramesSay frames (Err fault) × (result ≡ Err fault) × (after ≡ before))
 
-abbrev pub GetsRowsEverywhere : SocketAddrV4 → List ℕ → Option ℕ → Result (Unit {0}) CommandFault → Option (List Event) → Option (List Event)
+abbrev pub GetsRowsEverywhere : SocketAddrV4 → List ℕ → Option ℕ → Result (Unit {0}) CommandFault → Option (List ConnectionEvent) → Option (List ConnectionEvent)
     → (before after told_before told_after : Option (List ℕ)) → Type 0
 GetsRowsEverywhere address table version result old new before after told_before told_after =
     ((frames : Vec ℕ Global) × GetsFramesEverywhere address table version (Ok frames) old new told_before told_after
@@ -120,14 +120,14 @@ GetsRowsEverywhere address table version result old new before after told_before
 
 module _ (named table : List ℕ) (version : Option ℕ) where
   -- the words name a server and a table, of which it was asked; or one of them names nothing
-  abbrev pub GetsEverywhereAsked : Result (Unit {0}) CommandFault → Option (List Event) → Option (List Event) → (before after told_before told_after : Option (List ℕ)) → Type 0
+  abbrev pub GetsEverywhereAsked : Result (Unit {0}) CommandFault → Option (List ConnectionEvent) → Option (List ConnectionEvent) → (before after told_before told_after : Option (List ℕ)) → Type 0
   GetsEverywhereAsked result old new before after told_before told_after =
       ((address : SocketAddrV4) × NamesTable named table (Ok address)
       × GetsRowsEverywhere address table version result old new before after told_before told_after)
       ⊎ ((fault : CommandFault) × NamesTable named table (Err fault) × (result ≡ Err fault) × (new ≡ old) × (after ≡ before) × (told_after ≡ told_before))
 
   -- the exit status tells how it ended; a fault is reported behind the lines of the locations
-  abbrev pub RunsEverywhere : ℕ → Option (List Event) → Option (List Event) → (before after told_before told_after : Option (List ℕ)) → Type 0
+  abbrev pub RunsEverywhere : ℕ → Option (List ConnectionEvent) → Option (List ConnectionEvent) → (before after told_before told_after : Option (List ℕ)) → Type 0
   RunsEverywhere status old new before after told_before told_after =
       (result : Result (Unit {0}) CommandFault) × (told : Option (List ℕ)) × (status ≡ status_of result)
       × GetsEverywhereAsked result old new before after told_before told × OnOk result (Keeps told told_after)

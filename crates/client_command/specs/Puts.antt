@@ -9,7 +9,7 @@ use Rattle.client_calls.specs.Requests.{put_request}
 use Rattle.client_calls.specs.Results.{GivesVersion, HasVersion}
 use Rattle.json_client.specs.declared.fault.RowCallFault.TheVariants as rows
 use Rattle.json_client.specs.Puts.{IsUploadOfRows, MakesNoUpload}
-use Rattle.client_connections.specs.Events.{Event}
+use Rattle.client_connections.specs.Events.{ConnectionEvent}
 use Rattle.client_command.specs.declared.fault.CommandFault.{CommandFault}
 use Rattle.client_command.specs.declared.fault.CommandFault.TheVariants as faults
 use Rattle.client_command.specs.Faults.{status_of}
@@ -18,7 +18,7 @@ use Rattle.client_command.specs.Writing.{DoesNothing, WritesText, put_line}
 
 module _ (address : SocketAddrV4) (table id : List ℕ) (given : Option SchemaTree) (text : List ℕ) where
   -- an upload of the rows was put, and made a version, whose line was printed, or a beginning of it
-  pub record PutsAndTells (result : Result (Unit {0}) CommandFault) (old new : Option (List Event)) (before after : Option (List ℕ)) : Type 0 where
+  pub record PutsAndTells (result : Result (Unit {0}) CommandFault) (old new : Option (List ConnectionEvent)) (before after : Option (List ℕ)) : Type 0 where
     pub upload : Upload
     pub made : IsUploadOfRows table id given text upload
     pub version : ℕ
@@ -26,13 +26,13 @@ module _ (address : SocketAddrV4) (table id : List ℕ) (given : Option SchemaTr
     pub told : WhereKnown before after (WritesText (put_line id version) result)
 
   -- an upload of the rows was not put, or what it made was not told, and nothing was printed
-  pub record PutsInVain (fault : CommandFault) (old new : Option (List Event)) (before after : Option (List ℕ)) : Type 0 where
+  pub record PutsInVain (fault : CommandFault) (old new : Option (List ConnectionEvent)) (before after : Option (List ℕ)) : Type 0 where
     pub upload : Upload
     pub made : IsUploadOfRows table id given text upload
     pub put : Calls {T = ℕ} address (put_request upload) (GivesVersion id) (HasVersion id) (Err fault) old new
     pub silent : after ≡ before
 
-  abbrev pub PutsAt : Result (Unit {0}) CommandFault → Option (List Event) → Option (List Event) → Option (List ℕ) → Option (List ℕ) → Type 0
+  abbrev pub PutsAt : Result (Unit {0}) CommandFault → Option (List ConnectionEvent) → Option (List ConnectionEvent) → Option (List ℕ) → Option (List ℕ) → Type 0
   PutsAt (Ok done) old new before after = PutsAndTells (Ok done) old new before after
   PutsAt (Err faults.Io) old new before after = PutsAndTells (Err faults.Io) old new before after
   PutsAt (Err faults.OutOfMemory) old new before after = PutsAndTells (Err faults.OutOfMemory) old new before after
@@ -49,6 +49,6 @@ module _ (address : SocketAddrV4) (table id : List ℕ) (given : Option SchemaTr
   PutsAt (Err faults.Differs) old new before after = ⊥
 
   -- the exit status tells how it ended
-  abbrev pub RunsPut : ℕ → Option (List Event) → Option (List Event) → Option (List ℕ) → Option (List ℕ) → Type 0
+  abbrev pub RunsPut : ℕ → Option (List ConnectionEvent) → Option (List ConnectionEvent) → Option (List ℕ) → Option (List ℕ) → Type 0
   RunsPut status old new before after =
       (result : Result (Unit {0}) CommandFault) × (status ≡ status_of result) × PutsAt result old new before after

@@ -3,7 +3,7 @@
 use Rattle.std.specs.Prelude.{◌≡◌, ℕ, List, ◌++◌, codes, decimal, Option, Result, Ok, Err}
 use Rattle.grpc_frames.specs.FrameFaults.{IsBeginning}
 use Rattle.call_protocol.specs.Names.{id_text}
-use Rattle.client_connections.specs.Events.{Event}
+use Rattle.client_connections.specs.Events.{ConnectionEvent}
 use Rattle.client_command.specs.declared.fault.CommandFault.{CommandFault}
 use Rattle.client_command.specs.declared.fault.CommandFault.TheVariants as faults
 
@@ -37,5 +37,5 @@ IsOfLines faults.BadLocation = ⊥
 IsOfLines faults.Differs = ⊥
 
 -- nothing was opened, and nothing printed
-abbrev pub DoesNothing : Option (List Event) → Option (List Event) → Option (List ℕ) → Option (List ℕ) → Type 0
+abbrev pub DoesNothing : Option (List ConnectionEvent) → Option (List ConnectionEvent) → Option (List ℕ) → Option (List ℕ) → Type 0
 DoesNothing old new before after = (new ≡ old) × (after ≡ before)

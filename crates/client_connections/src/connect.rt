@@ -1,7 +1,7 @@
 //! Who opens connections.
 
 ghost use Rattle.std.specs.Prelude.{ℕ, List, [], ◌∷◌, Option, IfOk, OnErr};
-ghost use Rattle.client_connections.specs.Events.{Event, opened, refused, closed, Logs};
+ghost use Rattle.client_connections.specs.Events.{ConnectionEvent, opened, refused, closed, Logs};
 
 use crate::fault::ConnectFault;
 use std::alloc::Global;
@@ -18,7 +18,7 @@ pub trait Connect {
 
     /// What was opened and closed, in that order; `None` of connections that do not tell it, as those over real
     /// sockets.
-    ghost log: { Self → Option (List Event) };
+    ghost log: { Self → Option (List ConnectionEvent) };
 
     /// Opens a connection to the server at this address.
     ///

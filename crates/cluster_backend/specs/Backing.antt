@@ -7,7 +7,7 @@ use Rattle.node_threads.specs.parts.table_types.specs.Uploads.{Upload}
 use Rattle.node_threads.specs.parts.table_types.specs.Answers.{answer_of}
 use Rattle.node_threads.specs.parts.table_types.specs.Tables.{Version, effective, table_names}
 use Rattle.node_threads.specs.parts.table_versions.specs.Values.{AreUploadsIn}
-use Rattle.node_threads.specs.parts.table_versions.specs.State.{values_limit}
+use Rattle.node_threads.specs.parts.table_versions.specs.State.{agreed_values_limit}
 use Rattle.node_threads.specs.parts.table_versions.specs.Outcomes.{told}
 use Rattle.node_threads.specs.parts.table_versions.specs.declared.outcome.Outcome.{Outcome}
 use Rattle.node_threads.specs.parts.agreement.specs.declared.refusal.Refusal.TheVariants as refusal
@@ -46,7 +46,7 @@ pub record StaysAt (old new : Connected) : Type 0 where
 
 -- the uploads of some agreed values
 abbrev pub AreAgreed : List Upload → Type 0
-AreAgreed uploads = (values : List Value) × AreUploadsIn values uploads × (length values ≤ values_limit)
+AreAgreed uploads = (values : List Value) × AreUploadsIn values uploads × (length values ≤ agreed_values_limit)
 
 -- of a ticket the frames of a version, or that there is none; of an upload what has become of it
 abbrev pub IsAnswerTo : Query → EventResult → Type 0

@@ -9,12 +9,12 @@ unfoldable pub IsHeldReceipt : Journaled → Receipt → Type 0
 IsHeldReceipt journal receipt = IsTrue journal.whole × IsReceiptOf journal.trace receipt
 
 -- receipts in the order in which they were kept, and whether one was lost
-pub record Kept : Type 0 where
+pub record KeptReceipts : Type 0 where
   pub receipts : List Receipt
   pub is_short : Bool
 
 -- the receipt is the last of those that are kept, or it is known that one was lost
-abbrev pub KeepsOrLoses : Kept → Receipt → Kept → Type 0
+abbrev pub KeepsOrLoses : KeptReceipts → Receipt → KeptReceipts → Type 0
 KeepsOrLoses old receipt new =
     (new ≡ record { receipts = old.receipts ++ receipt ∷ []; is_short = old.is_short })
     ⊎ (new ≡ record { receipts = old.receipts; is_short = true })

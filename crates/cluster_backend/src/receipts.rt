@@ -33,9 +33,9 @@ pub struct KeptReceipts {
 }
 
 impl Model for KeptReceipts {
-    ghost use Rattle.cluster_backend.specs.Held.{Kept};
+    ghost use Rattle.cluster_backend.specs.Held.{KeptReceipts};
 
-    ghost Value = { Kept };
+    ghost Value = { KeptReceipts };
 
     ghost view = { λ k. record { receipts = k.receipts.items; is_short = k.is_short } };
 }

@@ -5,12 +5,12 @@ use Rattle.std.proofs.lemmas.Bool.{cases_lt}
 use Rattle.cluster_identity.specs.declared.file_mark.FileMark.{FileMark}
 use Rattle.cluster_folder.specs.declared.fault.FolderFault.{FolderFault}
 use Rattle.cluster_folder.specs.declared.fault.FolderFault.TheVariants as fault
-use Rattle.cluster_folder.specs.declared.judging.Standing.{Standing}
-use Rattle.cluster_folder.specs.declared.judging.Standing.TheVariants.{New, Old}
+use Rattle.cluster_folder.specs.declared.judging.FolderState.{FolderState}
+use Rattle.cluster_folder.specs.declared.judging.FolderState.TheVariants.{New, Old}
 use Rattle.cluster_folder.specs.Judging.{AreWhole, IsCut, IsFirst, IsNew, IsOfOthers, IsWhole, JudgeGives, marked_of}
 
 abbrev Judged : Type 0
-Judged = Result Standing FolderFault
+Judged = Result FolderState FolderFault
 
 -- ---- a file that is not whole
 

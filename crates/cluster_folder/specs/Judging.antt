@@ -6,8 +6,8 @@ use Rattle.std.specs.List.{Any}
 use Rattle.cluster_identity.specs.declared.file_mark.FileMark.{FileMark}
 use Rattle.cluster_folder.specs.declared.fault.FolderFault.{FolderFault}
 use Rattle.cluster_folder.specs.declared.fault.FolderFault.TheVariants as fault
-use Rattle.cluster_folder.specs.declared.judging.Standing.{Standing}
-use Rattle.cluster_folder.specs.declared.judging.Standing.TheVariants.{New, Old}
+use Rattle.cluster_folder.specs.declared.judging.FolderState.{FolderState}
+use Rattle.cluster_folder.specs.declared.judging.FolderState.TheVariants.{New, Old}
 
 -- it is there with more than a byte
 abbrev pub HasRecords : Option ℕ → Type 0
@@ -100,7 +100,7 @@ FilesGive count sizes marks (Err fault.OutOfMemory) = ⊥
 abbrev pub IsOld : ℕ → List (Option ℕ) → Option (List FileMark) → Type 0
 IsOld count sizes marks = (IsNew sizes marks → ⊥) × (IsOfOthers count sizes marks → ⊥)
 
-abbrev pub JudgeGives : ℕ → List (Option ℕ) → Option (List FileMark) → Result Standing FolderFault → Type 0
+abbrev pub JudgeGives : ℕ → List (Option ℕ) → Option (List FileMark) → Result FolderState FolderFault → Type 0
 JudgeGives count sizes marks (Ok New) = IsNew sizes marks
 JudgeGives count sizes marks (Ok Old) = IsOld count sizes marks × AreWhole count sizes marks
 JudgeGives count sizes marks (Err fault.Members) = (IsNew sizes marks → ⊥) × IsOfOthers count sizes marks

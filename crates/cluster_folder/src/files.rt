@@ -1,7 +1,7 @@
 //! The files of the nodes.
 
 use crate::fault::FolderFault;
-use crate::judging::{MOST_NODES, Standing, judge};
+use crate::judging::{FolderState, MOST_NODES, judge};
 use crate::paths::{record_path, sums_path};
 use cluster_identity::FileMark;
 use file_disk::FileDisk;
@@ -80,7 +80,7 @@ pub(crate) fn look_at<R: Files<File = File> + Alloc>(
     count: u8,
     folder: &str,
     marks: Option<&[FileMark]>,
-) -> Result<Standing, FolderFault> {
+) -> Result<FolderState, FolderFault> {
     let mut sizes = [None; MOST_NODES as usize];
     for number in 0..MOST_NODES {
         sizes[usize::from(number)] = size_of(files, alloc, folder, number)?;

@@ -12,7 +12,7 @@ pub const MOST_NODES: u8 = 5;
 
 /// What stands in a folder.
 #[derive(Clone, Copy, Debug, PartialEq, Eq)]
-pub enum Standing {
+pub enum FolderState {
     /// No record of an earlier server: a server starts anew.
     New,
     /// The records of an earlier server, each node's in its file.
@@ -22,7 +22,7 @@ pub enum Standing {
 /// What stands in a folder whose file `node-k.rec` has so many bytes as place k says, where it is there, for a server of so
 /// many nodes. `marks` are those that the last server put down, if there are any, a mark for each of its nodes.
 ///
-/// It is [`Standing::New`] exactly where there are no marks, and no file has records, which takes more than a byte. Else it is
+/// It is [`FolderState::New`] exactly where there are no marks, and no file has records, which takes more than a byte. Else it is
 /// [`FolderFault::Members`] exactly where the marks are of another number of nodes, or there are none, and a file is there of a
 /// node that the cluster has not. Else a node's file may be missing, or have no byte behind those that its mark has, which a server never leaves it: it is [`FolderFault::Missing`] or
 /// [`FolderFault::Truncated`] of the first node of which this is so.
@@ -30,18 +30,18 @@ pub fn judge(
     count: u8,
     sizes: &[Option<u64>],
     marks: Option<&[FileMark]>,
-) -> Result<Standing, FolderFault>
+) -> Result<FolderState, FolderFault>
     requires { count ≤ length sizes.now }
     ensures { JudgeGives count sizes.now (option_map (λ all. all.now) marks.entry) result }
 {
     if marks.is_none() && !have_records(sizes) {
-        return Ok(Standing::New);
+        return Ok(FolderState::New);
     }
     if are_of_others(count, sizes, marks) {
         return Err(FolderFault::Members);
     }
     match judge_files(count, sizes, marks) {
-        Ok(()) => Ok(Standing::Old),
+        Ok(()) => Ok(FolderState::Old),
         Err(fault) => Err(fault),
     }
 }

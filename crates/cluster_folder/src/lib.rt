@@ -27,7 +27,7 @@ mod reading;
 pub use advice::advise;
 pub use fault::FolderFault;
 pub use identity::put_down;
-pub use judging::{MOST_NODES, Standing, judge};
+pub use judging::{FolderState, MOST_NODES, judge};
 pub use marking::{check_mark, mark_of_file};
 pub use opening::{OpenFolder, open_folder};
 pub use reading::{node_files, read_folder};

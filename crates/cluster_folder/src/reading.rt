@@ -3,7 +3,7 @@
 use crate::fault::FolderFault;
 use crate::files::look_at;
 use crate::identity::identity_in;
-use crate::judging::{MOST_NODES, Standing};
+use crate::judging::{FolderState, MOST_NODES};
 use crate::paths::record_path;
 use cluster_identity::{FileMark, digested_parts, mark_of};
 use record_sums::NodeFiles;
@@ -118,17 +118,17 @@ fn all_files<R: Files<File = File> + Alloc<A = Global>>(
     alloc: Global,
     folder: &str,
     count: u8,
-    standing: Standing,
+    standing: FolderState,
     marks: Option<&[FileMark]>,
 ) -> Result<Vec<NodeFiles>, FolderFault> {
     let mut nodes = Vec::new(alloc);
     for node in 0..count {
         let read = match standing {
-            Standing::New => NodeFiles {
+            FolderState::New => NodeFiles {
                 sums: Vec::new(alloc),
                 records: Vec::new(alloc),
             },
-            Standing::Old => files_of(files, alloc, folder, node, marks)?,
+            FolderState::Old => files_of(files, alloc, folder, node, marks)?,
         };
         if nodes.push(read).is_err() {
             return Err(FolderFault::OutOfMemory);

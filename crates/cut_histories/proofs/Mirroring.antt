@@ -5,7 +5,7 @@ use Rattle.std.specs.List.{Contains}
 use Rattle.ballots.specs.declared.message.Message.{Message}
 use Rattle.ballots.specs.declared.record.Record.{Record}
 use Rattle.table_types.specs.Uploads.{Upload}
-use Rattle.agreement_rules.specs.Views.{Config, Views, started_with}
+use Rattle.agreement_rules.specs.Views.{AgreementConfig, Views, started_with}
 use Rattle.agreement_rules.specs.Due.{Refuses, Plans, OutOfRange, TickKeeps, MessageKeeps}
 use Rattle.histories.specs.Due.{Input}
 use Rattle.histories.specs.Due as input
@@ -14,7 +14,7 @@ use Rattle.histories.specs.Event as event
 use Rattle.histories.specs.EventResult.{EventResult, count_of, is_done}
 use Rattle.histories.specs.EventResult as results
 use Rattle.histories.specs.History.{Step}
-use Rattle.histories.specs.Following.{Seat, IsUp, IsDown, with_due, reason_of, PutGives, SendsGives, InputGives, CutGives, Delivers, GetGivesIfAble, InfoGivesIfAble, RestartGives, UpGives, RefusesAsDown, DownGives, SeatGives, IsAsked}
+use Rattle.histories.specs.Following.{UpOrDown, IsUp, IsDown, with_due, reason_of, PutGives, SendsGives, InputGives, CutGives, Delivers, GetGivesIfAble, InfoGivesIfAble, RestartGives, UpGives, RefusesAsDown, DownGives, NodeGives, IsAsked}
 use Rattle.histories.specs.Keeping.{restarts, records_in}
 use Rattle.cut_histories.specs.Settling.{settled, of_clients}
 use Rattle.cut_histories.proofs.Lists.{get_with_more, place_of, taken_behind}
@@ -27,16 +27,16 @@ step_of e given = record { event = e; result = given }
 
 -- ---- a node that is up, and sends and keeps nothing
 
-record IsQuiet (views : Views) (given : EventResult) (seat : Seat) : Type 0 where
+record IsQuiet (views : Views) (given : EventResult) (seat : UpOrDown) : Type 0 where
   after : Views
   is : seat ≡ IsUp after
   records : after.records ≡ views.records
   none : count_of given ≡ 0
 
-quiet : (views : Views) (given other : EventResult) (seat : Seat) → given ≡ other → count_of other ≡ 0 → seat ≡ IsUp views → IsQuiet views given seat
+quiet : (views : Views) (given other : EventResult) (seat : UpOrDown) → given ≡ other → count_of other ≡ 0 → seat ≡ IsUp views → IsQuiet views given seat
 quiet views given other seat is none same = record { after = views; is = same; records = refl; none = ap count_of is ∙ none }
 
-put_quiet : (config : Config) (node : ℕ) (views : Views) (text : List ℕ) (given : EventResult) (seat : Seat) → InputGives config node views (input.Put text) (PutGives views) given seat
+put_quiet : (config : AgreementConfig) (node : ℕ) (views : Views) (text : List ℕ) (given : EventResult) (seat : UpOrDown) → InputGives config node views (input.Put text) (PutGives views) given seat
     → IsQuiet views given seat
 put_quiet config node views text given seat (inl (Refuses refusal, is_due, (is, same))) = quiet views given (results.Refused (reason_of refusal)) seat is refl same
 put_quiet config node views text given seat (inl (Plans plan, is_due, (is, same))) =
@@ -55,25 +55,25 @@ info_count uploads table given (inr (some, is)) = ap count_of is
 
 -- ---- a history that has come to mirror another up to here
 
-module _ (keeping : KeepingLaws) (laws : ReachingLaws) (config : Config) (sent : List Message) (next : ℕ) (now : List Message) (seats : ℕ → Seat) (done : List Step)
+module _ (keeping : KeepingLaws) (laws : ReachingLaws) (config : AgreementConfig) (sent : List Message) (next : ℕ) (now : List Message) (seats : ℕ → UpOrDown) (done : List Step)
     (come : Come config now seats done) (placed : (number : ℕ) (m : Message) → number < next → slice_get sent number ≡ Some m → Contains now m) where
   -- what the step sent
   abbrev goes_out : EventResult → List Message
   goes_out given = take (count_of given) (drop next sent)
 
   -- it goes on by the node alone, sends all that the step sent, and leaves the node so; clients do the same
-  abbrev pub Mirrors : Event → EventResult → Seat → Type 0
+  abbrev pub Mirrors : Event → EventResult → UpOrDown → Type 0
   Mirrors e given to = Onward config now seats (node_of e) (goes_out given) to (done ++ of_clients (step_of e given ∷ []))
 
-  as_it_is : (node : ℕ) (more sends : List Message) (seat to : Seat) (clients : List Step) → more ≡ sends → seat ≡ to → Onward config now seats node more seat clients
+  as_it_is : (node : ℕ) (more sends : List Message) (seat to : UpOrDown) (clients : List Step) → more ≡ sends → seat ≡ to → Onward config now seats node more seat clients
       → Onward config now seats node sends to clients
   as_it_is node more sends seat to clients same ends onward =
-      subst (λ (l : List Message). Onward config now seats node l to clients) same (subst (λ (s : Seat). Onward config now seats node more s clients) ends onward)
+      subst (λ (l : List Message). Onward config now seats node l to clients) same (subst (λ (s : UpOrDown). Onward config now seats node more s clients) ends onward)
 
   -- ---- the same step again, which sends nothing
 
-  stands_still : (e : Event) → node_of e < config.members → (from : Seat) → seats (node_of e) ≡ from → (found : Bool) (given : EventResult) (seat to : Seat)
-      → SeatGives config (now ++ []) (length now) found from e given seat → IsAsked e found → count_of given ≡ 0 → records_in seat ≡ records_in from → seat ≡ to
+  stands_still : (e : Event) → node_of e < config.members → (from : UpOrDown) → seats (node_of e) ≡ from → (found : Bool) (given : EventResult) (seat to : UpOrDown)
+      → NodeGives config (now ++ []) (length now) found from e given seat → IsAsked e found → count_of given ≡ 0 → records_in seat ≡ records_in from → seat ≡ to
       → Mirrors e given to
   stands_still e member from was found given seat to gives asked none same ends =
       as_it_is (node_of e) [] (goes_out given) seat to (done ++ of_clients (step_of e given ∷ [])) (sym (ap (λ c. take c (drop next sent)) none)) ends
@@ -88,15 +88,15 @@ module _ (keeping : KeepingLaws) (laws : ReachingLaws) (config : Config) (sent :
         client = refl;
       }))
 
-  stays_up : (e : Event) → node_of e < config.members → (views : Views) → seats (node_of e) ≡ IsUp views → (found : Bool) (given : EventResult) (seat : Seat) (later : Bool)
-      → SeatGives config (now ++ []) (length now) found (IsUp views) e given seat → IsAsked e found → IsQuiet views given seat → Mirrors e given (settled later seat)
+  stays_up : (e : Event) → node_of e < config.members → (views : Views) → seats (node_of e) ≡ IsUp views → (found : Bool) (given : EventResult) (seat : UpOrDown) (later : Bool)
+      → NodeGives config (now ++ []) (length now) found (IsUp views) e given seat → IsAsked e found → IsQuiet views given seat → Mirrors e given (settled later seat)
   stays_up e member views was found given seat later gives asked still =
       stands_still e member (IsUp views) was found given seat (settled later seat) gives asked still.none (ap records_in still.is ∙ still.records)
       (still.is ∙ sym (ap (settled later) still.is))
 
   -- ---- a step that sends
 
-  record Sends (node : ℕ) (views : Views) (asked : Input) (given : EventResult) (seat : Seat) : Type 0 where
+  record Sends (node : ℕ) (views : Views) (asked : Input) (given : EventResult) (seat : UpOrDown) : Type 0 where
     more : List Message
     result : EventResult
     gives : InputGives config node views asked (SendsGives (now ++ more) (length now) views) result seat
@@ -106,7 +106,7 @@ module _ (keeping : KeepingLaws) (laws : ReachingLaws) (config : Config) (sent :
     after : Views
     is : seat ≡ IsUp after
 
-  sends_again : (node : ℕ) (views : Views) (asked : Input) (given : EventResult) (seat : Seat) → InputGives config node views asked (SendsGives sent next views) given seat
+  sends_again : (node : ℕ) (views : Views) (asked : Input) (given : EventResult) (seat : UpOrDown) → InputGives config node views asked (SendsGives sent next views) given seat
       → Sends node views asked given seat
   sends_again node views asked given seat (inl (Refuses refusal, is_due, (is, same))) = record {
     more = [];
@@ -123,7 +123,7 @@ module _ (keeping : KeepingLaws) (laws : ReachingLaws) (config : Config) (sent :
     result = results.Sent (length now) (length plan.sends);
     gives = inl (Plans plan, is_due, (refl, taken_behind now plan.sends, same));
     count = refl;
-    tells = subst (λ (s : Seat). Tells node views.records plan.sends (records_in s)) (sym same) (input_tells keeping config node views asked plan is_due);
+    tells = subst (λ (s : UpOrDown). Tells node views.records plan.sends (records_in s)) (sym same) (input_tells keeping config node views asked plan is_due);
     goes = sym (ap (λ g. goes_out g) is ∙ out);
     after = plan.after;
     is = same;
@@ -139,9 +139,9 @@ module _ (keeping : KeepingLaws) (laws : ReachingLaws) (config : Config) (sent :
     is = same;
   }
 
-  module _ (node : ℕ) (member : node < config.members) (views : Views) (was : seats node ≡ IsUp views) (given : EventResult) (seat : Seat) (later : Bool) where
+  module _ (node : ℕ) (member : node < config.members) (views : Views) (was : seats node ≡ IsUp views) (given : EventResult) (seat : UpOrDown) (later : Bool) where
     sent_again : (asked : Input) (it : Sends node views asked given seat) (e : Event) → node_of e ≡ node
-        → SeatGives config (now ++ it.more) (length now) false (IsUp views) e it.result seat → IsAsked e false → of_clients (step_of e it.result ∷ []) ≡ []
+        → NodeGives config (now ++ it.more) (length now) false (IsUp views) e it.result seat → IsAsked e false → of_clients (step_of e it.result ∷ []) ≡ []
         → Onward config now seats node (goes_out given) (settled later seat) (done ++ [])
     sent_again asked it e of gives is_asked none =
         as_it_is node it.more (goes_out given) seat (settled later seat) (done ++ []) it.goes (it.is ∙ sym (ap (settled later) it.is))
@@ -162,7 +162,7 @@ module _ (keeping : KeepingLaws) (laws : ReachingLaws) (config : Config) (sent :
         sent_again (input.Tick left) it (event.Tick node left) refl it.gives refl refl
 
     -- the message of the number was not sent yet
-    not_sent : (e : Event) → node_of e ≡ node → SeatGives config (now ++ []) (length now) false (IsUp views) e given seat → IsAsked e false
+    not_sent : (e : Event) → node_of e ≡ node → NodeGives config (now ++ []) (length now) false (IsUp views) e given seat → IsAsked e false
         → of_clients (step_of e given ∷ []) ≡ [] → given ≡ results.Refused results.NotSent → seat ≡ IsUp views
         → Onward config now seats node (goes_out given) (settled later seat) (done ++ [])
     not_sent e of gives asked none is same =
@@ -210,7 +210,7 @@ module _ (keeping : KeepingLaws) (laws : ReachingLaws) (config : Config) (sent :
       records : after.records ≡ views.records ++ r ∷ []
 
     uncut_by : (asked : Input) (r : Record) → (it : KeepsIt config node views asked r) → (e : Event) → node_of e ≡ node
-        → SeatGives config (now ++ it.plan.sends) (length now) false (IsUp views) e (results.Sent (length now) (length it.plan.sends)) (IsUp it.plan.after)
+        → NodeGives config (now ++ it.plan.sends) (length now) false (IsUp views) e (results.Sent (length now) (length it.plan.sends)) (IsUp it.plan.after)
         → IsAsked e false → of_clients (step_of e (results.Sent (length now) (length it.plan.sends)) ∷ []) ≡ [] → Uncut r
     uncut_by asked r it e of gives is_asked none = record {
       more = it.plan.sends;
@@ -264,7 +264,7 @@ module _ (keeping : KeepingLaws) (laws : ReachingLaws) (config : Config) (sent :
 
   -- ---- a restart of a node that is up
 
-  restarts_up : (node : ℕ) → node < config.members → (views : Views) → seats node ≡ IsUp views → (found : Bool) (given : EventResult) (seat : Seat) (later : Bool)
+  restarts_up : (node : ℕ) → node < config.members → (views : Views) → seats node ≡ IsUp views → (found : Bool) (given : EventResult) (seat : UpOrDown) (later : Bool)
       → RestartGives found (IsUp views) given seat → Mirrors (event.Restart node) given (settled later seat)
   restarts_up node member views was found given seat later (inl (is, same)) =
       stays_up (event.Restart node) member views was found given seat later (inl (is, same)) tt
@@ -275,12 +275,12 @@ module _ (keeping : KeepingLaws) (laws : ReachingLaws) (config : Config) (sent :
 
   -- ---- a node that is down
 
-  module _ (records : List Record) (due : Option Record) (given : EventResult) (seat : Seat) (later : Bool) where
-    abbrev settled_down : Bool → Seat
+  module _ (records : List Record) (due : Option Record) (given : EventResult) (seat : UpOrDown) (later : Bool) where
+    abbrev settled_down : Bool → UpOrDown
     settled_down found = IsDown (with_due found records due) None
 
     refused : (e : Event) → node_of e < config.members → seats (node_of e) ≡ settled_down later → (found : Bool) → IsAsked e found
-        → SeatGives config (now ++ []) (length now) found (settled_down later) e given (settled_down later) → RefusesAsDown (IsDown records due) given seat
+        → NodeGives config (now ++ []) (length now) found (settled_down later) e given (settled_down later) → RefusesAsDown (IsDown records due) given seat
         → Mirrors e given (settled later seat)
     refused e member was found asked gives (is, same) =
         stands_still e member (settled_down later) was found given (settled_down later) (settled later seat) gives asked (ap count_of is) refl (sym (ap (settled later) same))
@@ -300,7 +300,7 @@ module _ (keeping : KeepingLaws) (laws : ReachingLaws) (config : Config) (sent :
   abbrev pub told_by : Event → EventResult → (found later : Bool) → Bool
   told_by e given found later = if restarts (step_of e given) then found else later
 
-  up_mirrors : (e : Event) → node_of e < config.members → (views : Views) → seats (node_of e) ≡ IsUp views → (found : Bool) (given : EventResult) (seat : Seat) (later : Bool)
+  up_mirrors : (e : Event) → node_of e < config.members → (views : Views) → seats (node_of e) ≡ IsUp views → (found : Bool) (given : EventResult) (seat : UpOrDown) (later : Bool)
       → IsAsked e found → UpGives config sent next found views e given seat → Mirrors e given (settled later seat)
   up_mirrors (event.Put node text) member views was found given seat later asked gives =
       stays_up (event.Put node text) member views was found given seat later gives asked (put_quiet config node views text given seat gives)
@@ -319,7 +319,7 @@ module _ (keeping : KeepingLaws) (laws : ReachingLaws) (config : Config) (sent :
       stays_up (event.Outcome node text) member views was found given seat later (uploads, has, (upload, is_text, is), same) asked
       (record { after = views; is = same; records = refl; none = ap count_of is })
 
-  down_mirrors : (e : Event) → node_of e < config.members → (records : List Record) (due : Option Record) (found : Bool) (given : EventResult) (seat : Seat) (later : Bool)
+  down_mirrors : (e : Event) → node_of e < config.members → (records : List Record) (due : Option Record) (found : Bool) (given : EventResult) (seat : UpOrDown) (later : Bool)
       → seats (node_of e) ≡ IsDown (with_due (told_by e given found later) records due) None → IsAsked e found → DownGives found (IsDown records due) e given seat
       → Mirrors e given (settled later seat)
   down_mirrors (event.Put node text) member records due found given seat later was asked gives =
@@ -340,8 +340,8 @@ module _ (keeping : KeepingLaws) (laws : ReachingLaws) (config : Config) (sent :
   down_mirrors (event.Outcome node text) member records due found given seat later was asked gives =
       refused records due given seat later (event.Outcome node text) member was found asked (gives.0, refl) gives
 
-  pub mirrors : (e : Event) → node_of e < config.members → (old : Seat) (found : Bool) (given : EventResult) (seat : Seat) (later : Bool)
-      → seats (node_of e) ≡ settled (told_by e given found later) old → IsAsked e found → SeatGives config sent next found old e given seat
+  pub mirrors : (e : Event) → node_of e < config.members → (old : UpOrDown) (found : Bool) (given : EventResult) (seat : UpOrDown) (later : Bool)
+      → seats (node_of e) ≡ settled (told_by e given found later) old → IsAsked e found → NodeGives config sent next found old e given seat
       → Mirrors e given (settled later seat)
   mirrors e member (IsUp views) found given seat later was asked gives = up_mirrors e member views was found given seat later asked gives
   mirrors e member (IsDown records due) found given seat later was asked gives = down_mirrors e member records due found given seat later was asked gives

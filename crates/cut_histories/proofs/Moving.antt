@@ -6,12 +6,12 @@ use Rattle.std.proofs.lemmas.List.{append-nil}
 use Rattle.std.proofs.lemmas.List.Elements.{Contains-append_left, Contains-append_right, filter-append}
 use Rattle.ballots.specs.declared.message.Message.{Message}
 use Rattle.ballots.specs.declared.record.Record.{Record}
-use Rattle.agreement_rules.specs.Views.{Config}
+use Rattle.agreement_rules.specs.Views.{AgreementConfig}
 use Rattle.histories.specs.Event.{node_of}
 use Rattle.histories.specs.EventResult.{EventResult, count_of}
 use Rattle.histories.specs.EventResult as results
 use Rattle.histories.specs.History.{Step}
-use Rattle.histories.specs.Following.{Seat, SeatGives, IsAsked, StepFollows, Reaches, with_seat}
+use Rattle.histories.specs.Following.{UpOrDown, NodeGives, IsAsked, StepFollows, Reaches, with_seat}
 use Rattle.histories.specs.Keeping.{records_in}
 use Rattle.cut_histories.specs.Settling.{IsSaid, is_of_a_client, of_clients}
 use Rattle.cut_histories.proofs.Lists.{nothing_in}
@@ -20,25 +20,25 @@ use Rattle.cut_histories.proofs.Saying.{Tells, said_with_more}
 -- ---- what histories allow
 
 pub record ReachingLaws : Type 0 where
-  pub alone : (config : Config) (sent : List Message) (next : ℕ) (seats : ℕ → Seat) (step : Step) (recovered : Bool) (seat : Seat)
-      → node_of step.event < config.members → SeatGives config sent next recovered (seats (node_of step.event)) step.event step.result seat
+  pub alone : (config : AgreementConfig) (sent : List Message) (next : ℕ) (seats : ℕ → UpOrDown) (step : Step) (recovered : Bool) (seat : UpOrDown)
+      → node_of step.event < config.members → NodeGives config sent next recovered (seats (node_of step.event)) step.event step.result seat
       → StepFollows config sent next seats step recovered (with_seat seats (node_of step.event) seat)
-  pub further : (config : Config) (sent more : List Message) (steps : List Step) (recovered : List Bool) (seats new : ℕ → Seat) (step : Step) (was : Bool)
+  pub further : (config : AgreementConfig) (sent more : List Message) (steps : List Step) (recovered : List Bool) (seats new : ℕ → UpOrDown) (step : Step) (was : Bool)
       → Reaches config sent steps recovered seats → StepFollows config (sent ++ more) (length sent) seats step was new → IsAsked step.event was
       → length more ≡ count_of step.result → Reaches config (sent ++ more) (steps ++ step ∷ []) (recovered ++ was ∷ []) new
 
 -- ---- seats
 
-own_seat : (seats : ℕ → Seat) (node : ℕ) (seat : Seat) → with_seat seats node seat node ≡ seat
+own_seat : (seats : ℕ → UpOrDown) (node : ℕ) (seat : UpOrDown) → with_seat seats node seat node ≡ seat
 own_seat seats node seat = ap (λ (b : Bool). if b then seat else seats node) (eq-eqb node node refl)
 
-other_seat : (seats : ℕ → Seat) (node other : ℕ) (seat : Seat) → other ≢ node → with_seat seats node seat other ≡ seats other
+other_seat : (seats : ℕ → UpOrDown) (node other : ℕ) (seat : UpOrDown) → other ≢ node → with_seat seats node seat other ≡ seats other
 other_seat seats node other seat differs = ap (λ (b : Bool). if b then seat else seats other) (ne_eqb other node differs)
 
 -- ---- where a history has come to
 
 -- steps that send these messages, and leave the nodes so; each record of a member stands behind one of the messages
-pub record Come (config : Config) (sent : List Message) (seats : ℕ → Seat) (clients : List Step) : Type 0 where
+pub record Come (config : AgreementConfig) (sent : List Message) (seats : ℕ → UpOrDown) (clients : List Step) : Type 0 where
   pub steps : List Step
   pub recovered : List Bool
   pub reached : Reaches config sent steps recovered seats
@@ -46,22 +46,22 @@ pub record Come (config : Config) (sent : List Message) (seats : ℕ → Seat) (
   pub same : of_clients steps ≡ clients
 
 -- one step more of the node that is so
-pub record Move (config : Config) (sent : List Message) (node : ℕ) (from : Seat) (more : List Message) (to : Seat) (clients : List Step) : Type 0 where
+pub record Move (config : AgreementConfig) (sent : List Message) (node : ℕ) (from : UpOrDown) (more : List Message) (to : UpOrDown) (clients : List Step) : Type 0 where
   pub step : Step
   pub recovered : Bool
   pub of : node_of step.event ≡ node
-  pub gives : SeatGives config (sent ++ more) (length sent) recovered from step.event step.result to
+  pub gives : NodeGives config (sent ++ more) (length sent) recovered from step.event step.result to
   pub asked : IsAsked step.event recovered
   pub count : length more ≡ count_of step.result
   pub tells : Tells node (records_in from) more (records_in to)
   pub client : of_clients (step ∷ []) ≡ clients
 
-module _ (laws : ReachingLaws) (config : Config) (sent : List Message) (seats : ℕ → Seat) (done : List Step) (come : Come config sent seats done)
-    (node : ℕ) (member : node < config.members) (more : List Message) (to : Seat) (clients : List Step)
+module _ (laws : ReachingLaws) (config : AgreementConfig) (sent : List Message) (seats : ℕ → UpOrDown) (done : List Step) (come : Come config sent seats done)
+    (node : ℕ) (member : node < config.members) (more : List Message) (to : UpOrDown) (clients : List Step)
     (move : Move config sent node (seats node) more to clients) where
   follows : StepFollows config (sent ++ more) (length sent) seats move.step move.recovered (with_seat seats node to)
   follows =
-      subst (λ (n : ℕ). n < config.members → SeatGives config (sent ++ more) (length sent) move.recovered (seats n) move.step.event move.step.result to
+      subst (λ (n : ℕ). n < config.members → NodeGives config (sent ++ more) (length sent) move.recovered (seats n) move.step.event move.step.result to
       → StepFollows config (sent ++ more) (length sent) seats move.step move.recovered (with_seat seats n to)) move.of
       (laws.alone config (sent ++ more) (length sent) seats move.step move.recovered to) member move.gives
 
@@ -76,10 +76,10 @@ module _ (laws : ReachingLaws) (config : Config) (sent : List Message) (seats : 
     | inl same ↦
         let at_node = subst (λ (k : ℕ). Contains (records_in (with_seat seats node to k)) r) same has in
         subst (λ (k : ℕ). IsSaid (sent ++ more) k r) (sym same)
-        (said_here r (subst (λ (s : Seat). Contains (records_in s) r) (own_seat seats node to) at_node))
+        (said_here r (subst (λ (s : UpOrDown). Contains (records_in s) r) (own_seat seats node to) at_node))
     | inr apart ↦
         said_with_more sent more n r
-        (come.said n r within (subst (λ (s : Seat). Contains (records_in s) r) (other_seat seats node n to apart) has))
+        (come.said n r within (subst (λ (s : UpOrDown). Contains (records_in s) r) (other_seat seats node n to apart) has))
   ]
 
   moved : Come config (sent ++ more) (with_seat seats node to) (done ++ clients)
@@ -93,7 +93,7 @@ module _ (laws : ReachingLaws) (config : Config) (sent : List Message) (seats : 
   }
 
 -- an event of no member changes nothing
-pub stands_aside : (laws : ReachingLaws) (config : Config) (sent : List Message) (seats : ℕ → Seat) (done : List Step) → Come config sent seats done
+pub stands_aside : (laws : ReachingLaws) (config : AgreementConfig) (sent : List Message) (seats : ℕ → UpOrDown) (done : List Step) → Come config sent seats done
     → (step : Step) (found : Bool) → config.members ≤ node_of step.event → step.result ≡ results.Refused results.OutOfRange → IsAsked step.event found
     → Come config (sent ++ []) seats (done ++ of_clients (step ∷ []))
 stands_aside laws config sent seats done come step found aside refused asked = record {
@@ -107,24 +107,24 @@ stands_aside laws config sent seats done come step found aside refused asked = r
 -- ---- on from there
 
 -- it has gone on, by one node alone, which is so now; it has sent all that it had sent, and these
-pub record Onward (config : Config) (sent : List Message) (seats : ℕ → Seat) (node : ℕ) (sends : List Message) (to : Seat) (clients : List Step) : Type 0 where
+pub record Onward (config : AgreementConfig) (sent : List Message) (seats : ℕ → UpOrDown) (node : ℕ) (sends : List Message) (to : UpOrDown) (clients : List Step) : Type 0 where
   pub now_sent : List Message
-  pub now_seats : ℕ → Seat
+  pub now_seats : ℕ → UpOrDown
   pub come : Come config now_sent now_seats clients
   pub kept : (m : Message) → Contains sent m → Contains now_sent m
   pub new : (m : Message) → Contains sends m → Contains now_sent m
   pub here : now_seats node ≡ to
   pub others : (other : ℕ) → other ≢ node → now_seats other ≡ seats other
 
-module _ (laws : ReachingLaws) (config : Config) (node : ℕ) (member : node < config.members) where
-  moved_from : (sent : List Message) (seats : ℕ → Seat) (done : List Step) → Come config sent seats done → (from : Seat) → seats node ≡ from
-      → (more : List Message) (to : Seat) (clients : List Step) → Move config sent node from more to clients
+module _ (laws : ReachingLaws) (config : AgreementConfig) (node : ℕ) (member : node < config.members) where
+  moved_from : (sent : List Message) (seats : ℕ → UpOrDown) (done : List Step) → Come config sent seats done → (from : UpOrDown) → seats node ≡ from
+      → (more : List Message) (to : UpOrDown) (clients : List Step) → Move config sent node from more to clients
       → Come config (sent ++ more) (with_seat seats node to) (done ++ clients)
   moved_from sent seats done come from was more to clients move =
-      moved laws config sent seats done come node member more to clients (subst (λ (s : Seat). Move config sent node s more to clients) (sym was) move)
+      moved laws config sent seats done come node member more to clients (subst (λ (s : UpOrDown). Move config sent node s more to clients) (sym was) move)
 
-  pub one_move : (sent : List Message) (seats : ℕ → Seat) (done : List Step) → Come config sent seats done
-      → (from : Seat) → seats node ≡ from → (more : List Message) (to : Seat) (clients : List Step) → Move config sent node from more to clients
+  pub one_move : (sent : List Message) (seats : ℕ → UpOrDown) (done : List Step) → Come config sent seats done
+      → (from : UpOrDown) → seats node ≡ from → (more : List Message) (to : UpOrDown) (clients : List Step) → Move config sent node from more to clients
       → Onward config sent seats node more to (done ++ clients)
   one_move sent seats done come from was more to clients move = record {
     now_sent = sent ++ more;
@@ -137,9 +137,9 @@ module _ (laws : ReachingLaws) (config : Config) (node : ℕ) (member : node < c
   }
 
   -- two moves, of which the second one sends nothing, and clients did neither
-  pub two_moves : (sent : List Message) (seats : ℕ → Seat) (done : List Step) → Come config sent seats done
-      → (from : Seat) → seats node ≡ from → (more : List Message) (mid : Seat) → Move config sent node from more mid []
-      → (to : Seat) → Move config (sent ++ more) node mid [] to [] → Onward config sent seats node [] to (done ++ [])
+  pub two_moves : (sent : List Message) (seats : ℕ → UpOrDown) (done : List Step) → Come config sent seats done
+      → (from : UpOrDown) → seats node ≡ from → (more : List Message) (mid : UpOrDown) → Move config sent node from more mid []
+      → (to : UpOrDown) → Move config (sent ++ more) node mid [] to [] → Onward config sent seats node [] to (done ++ [])
   two_moves sent seats done come from was more mid first to second =
       let after = moved_from sent seats done come from was more mid [] first in
       let last = moved_from (sent ++ more) (with_seat seats node mid) (done ++ []) after mid (own_seat seats node mid) [] to [] second in record {

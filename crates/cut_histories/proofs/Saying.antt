@@ -6,7 +6,7 @@ use Rattle.ballots.specs.declared.message.Message.{Message}
 use Rattle.ballots.specs.declared.message.Body.{Body}
 use Rattle.ballots.specs.declared.message.Body.TheVariants as body
 use Rattle.ballots.specs.declared.record.Record.{Record}
-use Rattle.agreement_rules.specs.Views.{Config, Views}
+use Rattle.agreement_rules.specs.Views.{AgreementConfig, Views}
 use Rattle.agreement_rules.specs.Due.{Plan, Plans, TickIsDue, PartIsDue, has_seen}
 use Rattle.agreement_rules.specs.Keeping.{record_of}
 use Rattle.histories.specs.Due.{Input, IsDue, PutIsDue, BodyIsDue}
@@ -23,8 +23,8 @@ pub record IsKept (me : ℕ) (views : Views) (plan : Plan) : Type 0 where
   pub own : (m : Message) → Contains plan.sends m → m.sender ≡ me
 
 pub record KeepingLaws : Type 0 where
-  pub tick : (config : Config) (me : ℕ) (views : Views) (left : ℕ) (plan : Plan) → TickIsDue config me views left (Plans plan) → IsKept me views plan
-  pub part : (config : Config) (me : ℕ) (views : Views) (sender slot : ℕ) (b : Body) (plan : Plan) → PartIsDue config me views sender slot b plan → IsKept me views plan
+  pub tick : (config : AgreementConfig) (me : ℕ) (views : Views) (left : ℕ) (plan : Plan) → TickIsDue config me views left (Plans plan) → IsKept me views plan
+  pub part : (config : AgreementConfig) (me : ℕ) (views : Views) (sender slot : ℕ) (b : Body) (plan : Plan) → PartIsDue config me views sender slot b plan → IsKept me views plan
 
 -- ---- messages more
 
@@ -54,11 +54,11 @@ plan_tells me views plan kept = kept_tells me views plan kept.sends kept.records
 
 -- ---- of each input
 
-pub put_keeps : (config : Config) (views : Views) (text : List ℕ) (plan : Plan) → PutIsDue config views text (Plans plan) → plan.after.records ≡ views.records
+pub put_keeps : (config : AgreementConfig) (views : Views) (text : List ℕ) (plan : Plan) → PutIsDue config views text (Plans plan) → plan.after.records ≡ views.records
 put_keeps config views text plan (inl (known, is)) = ap (λ (p : Plan). p.after.records) is
 put_keeps config views text plan (inr (new, unknown, left, is)) = ap (λ (p : Plan). p.after.records) is
 
-module _ (laws : KeepingLaws) (config : Config) (me : ℕ) where
+module _ (laws : KeepingLaws) (config : AgreementConfig) (me : ℕ) where
   body_tells : (views : Views) (sender slot : ℕ) (b : Body) (plan : Plan) → BodyIsDue config me views sender slot b plan → Tells me views.records plan.sends plan.after.records
   body_tells views sender slot (body.Prepare ballot) plan is_due = plan_tells me views plan (laws.part config me views sender slot (body.Prepare ballot) plan is_due)
   body_tells views sender slot (body.Promise ballot report) plan is_due = plan_tells me views plan (laws.part config me views sender slot (body.Promise ballot report) plan is_due)

@@ -3,9 +3,9 @@ use Rattle.std.proofs.Common.{◌≡◌, ◌↔◌, ℕ, Bool, true, List, refl,
 use Rattle.std.specs.List.{Contains}
 use Rattle.ballots.specs.declared.message.Message.{Message}
 use Rattle.ballots.specs.declared.record.Record.{Record}
-use Rattle.agreement_rules.specs.Views.{Config}
+use Rattle.agreement_rules.specs.Views.{AgreementConfig}
 use Rattle.histories.specs.History.{Step}
-use Rattle.histories.specs.Following.{Seat, IsUp, IsDown, recovered_in, Reaches}
+use Rattle.histories.specs.Following.{UpOrDown, IsUp, IsDown, recovered_in, Reaches}
 use Rattle.histories.specs.Keeping.{records_in}
 use Rattle.cut_histories.specs.Settling.{settled, is_of_a_client, MayHaveSent}
 use Rattle.cut_histories.proofs.Lists.{place_of, in_both}
@@ -13,11 +13,11 @@ use Rattle.cut_histories.proofs.Saying.{KeepingLaws}
 use Rattle.cut_histories.proofs.Moving.{ReachingLaws}
 use Rattle.cut_histories.proofs.Walking.{mirrored}
 
-settled_has : (found : Bool) (seat : Seat) → recovered_in found seat ≡ records_in (settled found seat)
+settled_has : (found : Bool) (seat : UpOrDown) → recovered_in found seat ≡ records_in (settled found seat)
 settled_has found (IsUp views) = refl
 settled_has found (IsDown records due) = refl
 
-pub may_have_sent : KeepingLaws → ReachingLaws → (config : Config) (sent : List Message) (steps : List Step) (recovered : List Bool) (seats : ℕ → Seat) (found : ℕ → Bool)
+pub may_have_sent : KeepingLaws → ReachingLaws → (config : AgreementConfig) (sent : List Message) (steps : List Step) (recovered : List Bool) (seats : ℕ → UpOrDown) (found : ℕ → Bool)
     → Reaches config sent steps recovered seats → MayHaveSent config sent steps seats found
 may_have_sent keeping laws config sent steps recovered seats found reaches =
     let it = mirrored keeping laws config sent steps recovered seats found reaches in
@@ -37,7 +37,7 @@ may_have_sent keeping laws config sent steps recovered seats found reaches =
     }
 
 -- what clients did in one history they did in the other
-pub clients_same : (config : Config) (sent : List Message) (steps : List Step) (seats : ℕ → Seat) (found : ℕ → Bool) (other : MayHaveSent config sent steps seats found) (step : Step)
+pub clients_same : (config : AgreementConfig) (sent : List Message) (steps : List Step) (seats : ℕ → UpOrDown) (found : ℕ → Bool) (other : MayHaveSent config sent steps seats found) (step : Step)
     → is_of_a_client step.event ≡ true → Contains other.other_steps step ↔ Contains steps step
 clients_same config sent steps seats found other step by_client =
     in_both (λ (s : Step). is_of_a_client s.event) other.other_steps steps other.clients step by_client

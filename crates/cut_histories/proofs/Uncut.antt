@@ -12,7 +12,7 @@ use Rattle.ballots.specs.declared.record.Record.{Record}
 use Rattle.ballots.specs.declared.record.Record.TheVariants.{Promised, Accepted as HasAccepted}
 use Rattle.acceptor.specs.Standing.{Standing, Sets}
 use Rattle.acceptor.specs.declared.answer.Answer.TheVariants as answer
-use Rattle.agreement_rules.specs.Views.{Config, Views}
+use Rattle.agreement_rules.specs.Views.{AgreementConfig, Views}
 use Rattle.agreement_rules.specs.Due.{Plan, Refuses, Plans, TickKeeps, BodyKeeps, MessageKeeps, has_seen, answers_with}
 use Rattle.histories.specs.Due.{Input, IsDue, BodyIsDue}
 use Rattle.histories.specs.Due as input
@@ -42,18 +42,18 @@ granting_sets old slot ballot held =
 
 -- ---- a plan that keeps the record
 
-pub record KeepsIt (config : Config) (me : ℕ) (views : Views) (asked : Input) (r : Record) : Type 0 where
+pub record KeepsIt (config : AgreementConfig) (me : ℕ) (views : Views) (asked : Input) (r : Record) : Type 0 where
   pub plan : Plan
   pub is_due : IsDue config me views asked (Plans plan)
   pub records : plan.after.records ≡ views.records ++ r ∷ []
 
 -- likewise of a message's body
-record BodyKeepsIt (config : Config) (me : ℕ) (views : Views) (sender slot : ℕ) (b : Body) (r : Record) : Type 0 where
+record BodyKeepsIt (config : AgreementConfig) (me : ℕ) (views : Views) (sender slot : ℕ) (b : Body) (r : Record) : Type 0 where
   plan : Plan
   is_due : BodyIsDue config me views sender slot b plan
   records : plan.after.records ≡ views.records ++ r ∷ []
 
-body_uncut : (config : Config) (me : ℕ) (views : Views) (sender slot : ℕ) (b : Body) (r : Record) → BodyKeeps views.records slot b (Some r)
+body_uncut : (config : AgreementConfig) (me : ℕ) (views : Views) (sender slot : ℕ) (b : Body) (r : Record) → BodyKeeps views.records slot b (Some r)
     → BodyKeepsIt config me views sender slot b r
 body_uncut config me views sender slot (body.Prepare ballot) r (standing, restored, inl (above, is)) = record {
   plan = answers_with views (Promised slot ballot) (message me slot (body.Promise ballot (standing.accepted slot)));
@@ -87,13 +87,13 @@ body_uncut config me views sender slot (body.Accepted acceptance) r is = absurd 
 body_uncut config me views sender slot (body.Decided value) r is = absurd (none_is_some r (sym is))
 body_uncut config me views sender slot body.Ask r is = absurd (none_is_some r (sym is))
 
-pub message_uncut : (config : Config) (me : ℕ) (views : Views) (m : Message) (r : Record) → MessageKeeps config views m (Some r) → KeepsIt config me views (input.Deliver m) r
+pub message_uncut : (config : AgreementConfig) (me : ℕ) (views : Views) (m : Message) (r : Record) → MessageKeeps config views m (Some r) → KeepsIt config me views (input.Deliver m) r
 message_uncut config me views m r (inl (is_of, keeps)) =
     let it = body_uncut config me (has_seen views m) m.sender m.slot m.body r keeps in
     record { plan = it.plan; is_due = (is_of, it.is_due); records = it.records }
 message_uncut config me views m r (inr (is_none, is)) = absurd (none_is_some r (sym is))
 
-pub tick_uncut : (laws : KeepingLaws) (config : Config) (me : ℕ) (views : Views) (left : ℕ) (r : Record) → TickKeeps config me views left (Some r)
+pub tick_uncut : (laws : KeepingLaws) (config : AgreementConfig) (me : ℕ) (views : Views) (left : ℕ) (r : Record) → TickKeeps config me views left (Some r)
     → KeepsIt config me views (input.Tick left) r
 tick_uncut laws config me views left r (Refuses refusal, is_due, is) = absurd (none_is_some r (sym is))
 tick_uncut laws config me views left r (Plans plan, is_due, is) = record {

@@ -5,12 +5,12 @@ use Rattle.std.proofs.lemmas.Bool.{cases_eq, cases_lt}
 use Rattle.std.proofs.lemmas.List.{append-nil}
 use Rattle.std.proofs.lemmas.List.Elements.{Contains-append_left, filter-append}
 use Rattle.ballots.specs.declared.message.Message.{Message}
-use Rattle.agreement_rules.specs.Views.{Config}
+use Rattle.agreement_rules.specs.Views.{AgreementConfig}
 use Rattle.histories.specs.Event.{node_of, is_restart}
 use Rattle.histories.specs.EventResult.{EventResult, count_of, is_done}
 use Rattle.histories.specs.EventResult as results
 use Rattle.histories.specs.History.{Step}
-use Rattle.histories.specs.Following.{Seat, SeatGives, StepFollows, IsAsked, StepsReach, at_first}
+use Rattle.histories.specs.Following.{UpOrDown, NodeGives, StepFollows, IsAsked, StepsReach, at_first}
 use Rattle.histories.specs.Keeping.{restarts}
 use Rattle.cut_histories.specs.Settling.{settled, is_of_a_client, of_clients}
 use Rattle.cut_histories.proofs.Lists.{nothing_in, taken_has}
@@ -30,9 +30,9 @@ will_find found (step ∷ steps) [] = found
 will_find found (step ∷ steps) (recovered ∷ more) = finds_with step recovered (will_find found steps more)
 
 -- the other history, where a first part of this one has come to
-pub record Mirror (config : Config) (sent : List Message) (next : ℕ) (seats : ℕ → Seat) (finds : ℕ → Bool) (clients : List Step) : Type 0 where
+pub record Mirror (config : AgreementConfig) (sent : List Message) (next : ℕ) (seats : ℕ → UpOrDown) (finds : ℕ → Bool) (clients : List Step) : Type 0 where
   pub now_sent : List Message
-  pub now_seats : ℕ → Seat
+  pub now_seats : ℕ → UpOrDown
   pub come : Come config now_sent now_seats clients
   pub placed : (number : ℕ) (m : Message) → number < next → slice_get sent number ≡ Some m → Contains now_sent m
   pub settles : (node : ℕ) → now_seats node ≡ settled (finds node) (seats node)
@@ -44,13 +44,13 @@ none_started true true false not_done = refl
 none_started true false false not_done = refl
 none_started false restarted false not_done = refl
 
-module _ (keeping : KeepingLaws) (laws : ReachingLaws) (config : Config) (sent : List Message) where
-  module _ (next : ℕ) (seats after : ℕ → Seat) (step : Step) (recovered : Bool) (later : ℕ → Bool) (clients : List Step) (asked : IsAsked step.event recovered)
+module _ (keeping : KeepingLaws) (laws : ReachingLaws) (config : AgreementConfig) (sent : List Message) where
+  module _ (next : ℕ) (seats after : ℕ → UpOrDown) (step : Step) (recovered : Bool) (later : ℕ → Bool) (clients : List Step) (asked : IsAsked step.event recovered)
       (so_far : Mirror config sent next seats (finds_with step recovered later) clients) where
     abbrev node : ℕ
     node = node_of step.event
 
-    step_of_member : node < config.members → SeatGives config sent next recovered (seats node) step.event step.result (after node)
+    step_of_member : node < config.members → NodeGives config sent next recovered (seats node) step.event step.result (after node)
         → ((other : ℕ) → other ≢ node → after other ≡ seats other)
         → Mirror config sent (next + count_of step.result) after later (clients ++ of_clients (step ∷ []))
     step_of_member member gives others =
@@ -99,12 +99,12 @@ module _ (keeping : KeepingLaws) (laws : ReachingLaws) (config : Config) (sent :
     mirror_step (inl (member, gives, others)) = step_of_member member gives others
     mirror_step (inr (aside, refused, others)) = step_aside aside refused others
 
-  walk : (found : ℕ → Bool) (last : ℕ → Seat) (steps : List Step) (recovered : List Bool) (seats : ℕ → Seat) (next : ℕ) (clients : List Step)
+  walk : (found : ℕ → Bool) (last : ℕ → UpOrDown) (steps : List Step) (recovered : List Bool) (seats : ℕ → UpOrDown) (next : ℕ) (clients : List Step)
       → StepsReach config sent seats next steps recovered last → Mirror config sent next seats (will_find found steps recovered) clients
       → Mirror config sent (length sent) last found (clients ++ of_clients steps)
   walk found last [] recovered seats next clients (none, end, same) so_far =
       subst (λ (l : List Step). Mirror config sent (length sent) last found l) (sym (append-nil clients))
-      (subst (λ (s : ℕ → Seat). Mirror config sent (length sent) s found clients) (sym same) (subst (λ (n : ℕ). Mirror config sent n seats found clients) end so_far))
+      (subst (λ (s : ℕ → UpOrDown). Mirror config sent (length sent) s found clients) (sym same) (subst (λ (n : ℕ). Mirror config sent n seats found clients) end so_far))
   walk found last (step ∷ steps) [] seats next clients reaches so_far = absurd reaches
   walk found last (step ∷ steps) (r ∷ more) seats next clients (after, one, asked, rest) so_far =
       subst (λ (l : List Step). Mirror config sent (length sent) last found l)
@@ -129,6 +129,6 @@ module _ (keeping : KeepingLaws) (laws : ReachingLaws) (config : Config) (sent :
     outside = λ node beyond. refl;
   }
 
-  pub mirrored : (steps : List Step) (recovered : List Bool) (seats : ℕ → Seat) (found : ℕ → Bool) → StepsReach config sent at_first 0 steps recovered seats
+  pub mirrored : (steps : List Step) (recovered : List Bool) (seats : ℕ → UpOrDown) (found : ℕ → Bool) → StepsReach config sent at_first 0 steps recovered seats
       → Mirror config sent (length sent) seats found (of_clients steps)
   mirrored steps recovered seats found reaches = walk found seats steps recovered at_first 0 [] reaches (nothing_yet (will_find found steps recovered))

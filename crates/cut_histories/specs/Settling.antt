@@ -5,15 +5,15 @@ use Rattle.std.specs.Prelude.{◌≡◌, ℕ, ◌<◌, ◌≤◌, Bool, true, fa
 use Rattle.std.specs.List.{Contains}
 use Rattle.ballots.specs.declared.message.Message.{Message}
 use Rattle.ballots.specs.declared.record.Record.{Record}
-use Rattle.agreement_rules.specs.Views.{Config}
+use Rattle.agreement_rules.specs.Views.{AgreementConfig}
 use Rattle.agreement_rules.specs.Keeping.{record_of}
 use Rattle.histories.specs.Event.{Event}
 use Rattle.histories.specs.Event as event
 use Rattle.histories.specs.History.{Step}
-use Rattle.histories.specs.Following.{Seat, IsUp, IsDown, with_due, recovered_in, Reaches}
+use Rattle.histories.specs.Following.{UpOrDown, IsUp, IsDown, with_due, recovered_in, Reaches}
 
 -- Nothing is in doubt at a node that is down: the record that was due is found, and is one of its records, or is lost.
-abbrev pub settled : Bool → Seat → Seat
+abbrev pub settled : Bool → UpOrDown → UpOrDown
 settled found (IsUp views) = IsUp views
 settled found (IsDown records due) = IsDown (with_due found records due) None
 
@@ -39,12 +39,12 @@ of_clients steps = filter (λ (step : Step). is_of_a_client step.event) steps
 
 -- Another history leaves the nodes as these steps did, where `found` says of each node that is down whether the record
 -- is found that was due there; and each record that a member then has stands behind a message that was sent.
-pub record MayHaveSent (config : Config) (sent : List Message) (steps : List Step) (seats : ℕ → Seat)
+pub record MayHaveSent (config : AgreementConfig) (sent : List Message) (steps : List Step) (seats : ℕ → UpOrDown)
     (found : ℕ → Bool) : Type 0 where
   pub other_sent : List Message
   pub other_steps : List Step
   pub other_recovered : List Bool
-  pub other_seats : ℕ → Seat
+  pub other_seats : ℕ → UpOrDown
   pub reached : Reaches config other_sent other_steps other_recovered other_seats
   pub settles : (node : ℕ) → other_seats node ≡ settled (found node) (seats node)
   -- who is no member is as it was

@@ -8,11 +8,11 @@ ghost use Rattle.ballots.specs.declared.acceptance.Acceptance.{Acceptance};
 ghost use Rattle.ballots.specs.declared.record.Record.TheVariants.{Began, Promised, Accepted as HasAccepted};
 ghost use Rattle.ballots.specs.declared.message.Message.{Message};
 ghost use Rattle.ballots.specs.declared.message.Body.TheVariants.{Prepare, Promise, Accepted};
-ghost use Rattle.agreement_rules.specs.Views.{Config, Views};
+ghost use Rattle.agreement_rules.specs.Views.{AgreementConfig, Views};
 ghost use Rattle.histories.specs.Event.{Put, Get, Info, Outcome};
 ghost use Rattle.histories.specs.EventResult.{EventResult};
 ghost use Rattle.histories.specs.History.{Step};
-ghost use Rattle.histories.specs.Following.{Seat, IsUp, recovered_in, Reaches};
+ghost use Rattle.histories.specs.Following.{UpOrDown, IsUp, recovered_in, Reaches};
 ghost use Rattle.cut_histories.specs.Settling.{IsSaid, MayHaveSent};
 
 use agreement_rules::laws::{plans_keep_what_they_send, replies_are_its_own};
@@ -23,7 +23,7 @@ use histories::laws::{a_member_steps_alone, one_step_more_reaches};
 /// that a record of a member stands behind (Lamport, *Paxos Made Simple*, section 2.5). Of nodes that are down in the
 /// end, `found` says whose record is found; in the other history none is in doubt.
 pub fn a_cut_may_have_sent()
-    ensures { (config : Config) (sent : List Message) (steps : List Step) (recovered : List Bool) (seats : ℕ → Seat)
+    ensures { (config : AgreementConfig) (sent : List Message) (steps : List Step) (recovered : List Bool) (seats : ℕ → UpOrDown)
         (found : ℕ → Bool) → Reaches config sent steps recovered seats → MayHaveSent config sent steps seats found }
 {
     plans_keep_what_they_send();
@@ -36,19 +36,19 @@ pub fn a_cut_may_have_sent()
 /// be recovered; one that is up is as it was, and so is who is no member. All that was sent here was sent there, and so
 /// was the Accepted of each acceptance that a member has.
 pub fn nodes_have_the_same_records()
-    ensures records { (config : Config) (sent : List Message) (steps : List Step) (seats : ℕ → Seat) (found : ℕ → Bool)
+    ensures records { (config : AgreementConfig) (sent : List Message) (steps : List Step) (seats : ℕ → UpOrDown) (found : ℕ → Bool)
         (other : MayHaveSent config sent steps seats found) (node : ℕ) (recovered : Bool)
         → recovered_in recovered (other.other_seats node) ≡ recovered_in (found node) (seats node) }
-    ensures up { (config : Config) (sent : List Message) (steps : List Step) (seats : ℕ → Seat) (found : ℕ → Bool)
+    ensures up { (config : AgreementConfig) (sent : List Message) (steps : List Step) (seats : ℕ → UpOrDown) (found : ℕ → Bool)
         (other : MayHaveSent config sent steps seats found) (node : ℕ) (views : Views) → seats node ≡ IsUp views
         → other.other_seats node ≡ IsUp views }
-    ensures outside { (config : Config) (sent : List Message) (steps : List Step) (seats : ℕ → Seat) (found : ℕ → Bool)
+    ensures outside { (config : AgreementConfig) (sent : List Message) (steps : List Step) (seats : ℕ → UpOrDown) (found : ℕ → Bool)
         (other : MayHaveSent config sent steps seats found) (node : ℕ) → config.members ≤ node
         → other.other_seats node ≡ seats node }
-    ensures sent { (config : Config) (sent : List Message) (steps : List Step) (seats : ℕ → Seat) (found : ℕ → Bool)
+    ensures sent { (config : AgreementConfig) (sent : List Message) (steps : List Step) (seats : ℕ → UpOrDown) (found : ℕ → Bool)
         (other : MayHaveSent config sent steps seats found) (m : Message) → Contains sent m
         → Contains other.other_sent m }
-    ensures accepted { (config : Config) (sent : List Message) (steps : List Step) (seats : ℕ → Seat)
+    ensures accepted { (config : AgreementConfig) (sent : List Message) (steps : List Step) (seats : ℕ → UpOrDown)
         (found : ℕ → Bool) (other : MayHaveSent config sent steps seats found) (node slot : ℕ) (told : Acceptance)
         → node < config.members → Contains (recovered_in (found node) (seats node)) (HasAccepted slot told)
         → Contains other.other_sent (message node slot (Accepted told)) }
@@ -58,19 +58,19 @@ pub fn nodes_have_the_same_records()
 
 /// What clients handed in and asked there, and what they were answered, is the same.
 pub fn clients_do_the_same()
-    ensures put { (config : Config) (sent : List Message) (steps : List Step) (seats : ℕ → Seat) (found : ℕ → Bool)
+    ensures put { (config : AgreementConfig) (sent : List Message) (steps : List Step) (seats : ℕ → UpOrDown) (found : ℕ → Bool)
         (other : MayHaveSent config sent steps seats found) (node : ℕ) (text : List ℕ) (given : EventResult)
         → Contains other.other_steps (record { event = Put node text; result = given })
         ↔ Contains steps (record { event = Put node text; result = given }) }
-    ensures get { (config : Config) (sent : List Message) (steps : List Step) (seats : ℕ → Seat) (found : ℕ → Bool)
+    ensures get { (config : AgreementConfig) (sent : List Message) (steps : List Step) (seats : ℕ → UpOrDown) (found : ℕ → Bool)
         (other : MayHaveSent config sent steps seats found) (node version : ℕ) (table : List ℕ) (given : EventResult)
         → Contains other.other_steps (record { event = Get node table version; result = given })
         ↔ Contains steps (record { event = Get node table version; result = given }) }
-    ensures info { (config : Config) (sent : List Message) (steps : List Step) (seats : ℕ → Seat) (found : ℕ → Bool)
+    ensures info { (config : AgreementConfig) (sent : List Message) (steps : List Step) (seats : ℕ → UpOrDown) (found : ℕ → Bool)
         (other : MayHaveSent config sent steps seats found) (node : ℕ) (table : List ℕ) (given : EventResult)
         → Contains other.other_steps (record { event = Info node table; result = given })
         ↔ Contains steps (record { event = Info node table; result = given }) }
-    ensures outcome { (config : Config) (sent : List Message) (steps : List Step) (seats : ℕ → Seat) (found : ℕ → Bool)
+    ensures outcome { (config : AgreementConfig) (sent : List Message) (steps : List Step) (seats : ℕ → UpOrDown) (found : ℕ → Bool)
         (other : MayHaveSent config sent steps seats found) (node : ℕ) (text : List ℕ) (given : EventResult)
         → Contains other.other_steps (record { event = Outcome node text; result = given })
         ↔ Contains steps (record { event = Outcome node text; result = given }) }

@@ -1,4 +1,4 @@
-//! FlatBuffers read at places of a text, without memory, from bytes that nobody has checked.
+//! FlatBuffers read at byte offsets of a text, without memory, from bytes that nobody has checked.
 //!
 //! What a place shows is defined in `specs/` as a relation on the text alone, apart from how it is read: `Number`,
 //! `Table` and `Vector` after FlatBuffers, "FlatBuffer Internals". Each call is `Ok` exactly where the place shows a

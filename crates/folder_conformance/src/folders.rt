@@ -1,7 +1,7 @@
 //! Rows of lengths, worked by hand, and a folder of real files.
 
 use cluster_folder::{
-    FolderFault, Standing, check_mark, judge, mark_of_file, open_folder, put_down,
+    FolderFault, FolderState, check_mark, judge, mark_of_file, open_folder, put_down,
 };
 use cluster_identity::{FileMark, mark_of};
 use disk_records::MemoryDisk;
@@ -39,9 +39,9 @@ fn marked(length: u64) -> FileMark {
 #[test]
 fn lengths_say_what_stands_there(rt: HostRuntime) {
     let new = [Some(1), None, Some(0), None, None];
-    assert!(rt; judge(3, &new, None) == Ok(Standing::New));
+    assert!(rt; judge(3, &new, None) == Ok(FolderState::New));
     let old = [Some(9), Some(1), Some(10), None, None];
-    assert!(rt; judge(3, &old, None) == Ok(Standing::Old));
+    assert!(rt; judge(3, &old, None) == Ok(FolderState::Old));
     assert!(rt; judge(5, &old, None) == Err(FolderFault::Missing(3)));
     let five = [Some(9), Some(1), Some(10), Some(9), Some(9)];
     assert!(rt; judge(3, &five, None) == Err(FolderFault::Members));
@@ -53,7 +53,7 @@ fn lengths_say_what_stands_there(rt: HostRuntime) {
 fn marks_say_how_long_files_were(rt: HostRuntime) {
     let marks = [marked(0), marked(8), marked(8)];
     let old = [Some(1), Some(9), Some(9), None, None];
-    assert!(rt; judge(3, &old, Some(&marks)) == Ok(Standing::Old));
+    assert!(rt; judge(3, &old, Some(&marks)) == Ok(FolderState::Old));
     assert!(rt; judge(5, &old, Some(&marks)) == Err(FolderFault::Members));
     let cut = [Some(1), Some(9), Some(8), None, None];
     assert!(rt; judge(3, &cut, Some(&marks)) == Err(FolderFault::Truncated(2)));

@@ -14,7 +14,7 @@ use Rattle.ballots.specs.declared.value.Value.{Value}
 use Rattle.ballots.proofs.CallerLemmas.{majorities_meet}
 use Rattle.chosen_records.specs.Chosen.{IsChosenAt, IsRecorded, IsToldChosen, Records, TellsChosen, told_of}
 use Rattle.folder_report.specs.Marks.{ListsMarked, MarkAll, Marks, accept, accepts, are_of, mark_at, stand}
-use Rattle.folder_report.specs.Reporting.{AreServed, IsAccepted, IsChosen, StandsAs, TellsSlots}
+use Rattle.folder_report.specs.Reporting.{AreServed, IsAccepted, IsChosenByRecords, StandsAs, TellsSlots}
 use Rattle.folder_report.specs.Values.{FillSlots, TellsAgain, slots_limit}
 use Rattle.folder_report.specs.declared.report.SlotReport.{SlotReport}
 use Rattle.folder_report.specs.declared.report.SlotState.{SlotState}
@@ -62,13 +62,13 @@ told_back : (slot : ℕ) (told : List Message) (m : Message) → Contains told m
 told_back slot told m has same = list_any-from_Any (λ (x : Message). eqb x.slot slot) told (has.0, m, has.1, has.2, eq-eqb m.slot slot same)
 
 module _ (members : ℕ) (all : List (List Record)) (told : List Message) (tells : TellsAgain members all told) where
-  chosen_told : (slot : ℕ) (value : Value) → IsChosen members all slot value → are_of slot told ≡ true
+  chosen_told : (slot : ℕ) (value : Value) → IsChosenByRecords members all slot value → are_of slot told ≡ true
   chosen_told slot value chosen =
       let is : IsToldChosen members told slot = tells.whole slot chosen.0 value chosen.1 in
       let shared = majorities_meet members is.2.is_in is.2.is_in is.2.majority is.2.majority in
       told_back slot told (told_of shared.member slot (acceptance is.0 is.1)) (is.2.each shared.member shared.within shared.in_first) refl
 
-  told_chosen : (slot : ℕ) → are_of slot told ≡ true → (value : Value) × IsChosen members all slot value
+  told_chosen : (slot : ℕ) → are_of slot told ≡ true → (value : Value) × IsChosenByRecords members all slot value
   told_chosen slot e =
       let it = told_there slot told e in
       let is : TellsChosen members all it.0 = All-contains (TellsChosen members all) told it.0 tells.only it.1 in

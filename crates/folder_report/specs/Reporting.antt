@@ -23,13 +23,13 @@ use Rattle.folder_report.specs.declared.report.TableReport.{TableReport}
 -- ---- what is chosen
 
 -- a majority has recorded at one ballot of the slot that it accepted this value
-abbrev pub IsChosen : ℕ → List (List Record) → ℕ → Value → Type 0
-IsChosen members all slot value = (ballot : Ballot) × IsChosenAt members all slot ballot value
+abbrev pub IsChosenByRecords : ℕ → List (List Record) → ℕ → Value → Type 0
+IsChosenByRecords members all slot value = (ballot : Ballot) × IsChosenAt members all slot ballot value
 
 -- for no slot two values are chosen
 abbrev pub HaveOneValue : ℕ → List (List Record) → Type 0
 HaveOneValue members all =
-    (slot : ℕ) (one other : Value) → IsChosen members all slot one → IsChosen members all slot other → one ≡ other
+    (slot : ℕ) (one other : Value) → IsChosenByRecords members all slot one → IsChosenByRecords members all slot other → one ≡ other
 
 -- some node has recorded that it accepted something for the slot
 abbrev pub IsAccepted : List (List Record) → ℕ → Type 0
@@ -37,8 +37,8 @@ IsAccepted all slot = (node : ℕ) × (accepted : Acceptance) × Records all nod
 
 -- these values are chosen for the slots from 0 on, and none is for the slot behind them
 pub record AreServed (members : ℕ) (all : List (List Record)) (values : List Value) : Type 0 where
-  pub chosen : (slot : ℕ) (value : Value) → slice_get values slot ≡ Some value → IsChosen members all slot value
-  pub ends : (value : Value) → IsChosen members all (length values) value → ⊥
+  pub chosen : (slot : ℕ) (value : Value) → slice_get values slot ≡ Some value → IsChosenByRecords members all slot value
+  pub ends : (value : Value) → IsChosenByRecords members all (length values) value → ⊥
 
 -- ---- the tables that they make
 
@@ -59,8 +59,8 @@ pub record TellsTables (values : List Value) (tables : List TableReport) : Type 
 
 -- so the slot stands: it waits exactly where a value is chosen for it
 abbrev pub StandsAs : ℕ → List (List Record) → ℕ → SlotState → Type 0
-StandsAs members all slot Undecided = (value : Value) → IsChosen members all slot value → ⊥
-StandsAs members all slot Waiting = (value : Value) × IsChosen members all slot value
+StandsAs members all slot Undecided = (value : Value) → IsChosenByRecords members all slot value → ⊥
+StandsAs members all slot Waiting = (value : Value) × IsChosenByRecords members all slot value
 
 -- it tells of a slot from this one on, for which something is accepted, how it stands
 pub record TellsSlot (members : ℕ) (all : List (List Record)) (first : ℕ) (told : SlotReport) : Type 0 where

@@ -10,7 +10,7 @@ use Rattle.ballots.specs.declared.message.Message.{Message}
 use Rattle.ballots.specs.declared.record.Record.{Record}
 use Rattle.ballots.specs.declared.value.Value.{Value}
 use Rattle.chosen_records.specs.Chosen.{IsChosenAt, IsRecorded, IsToldChosen, TellsChosen}
-use Rattle.folder_report.specs.Reporting.{IsChosen}
+use Rattle.folder_report.specs.Reporting.{IsChosenByRecords}
 
 -- how many slots there can be
 abbrev pub slots_limit : ℕ
@@ -42,5 +42,5 @@ followed_by values message =
 
 -- the values are chosen for the slots from 0 on, and no message is of the slot behind them
 pub record FillSlots (members : ℕ) (all : List (List Record)) (told : List Message) (values : List Value) : Type 0 where
-  pub chosen : (slot : ℕ) (value : Value) → slice_get values slot ≡ Some value → IsChosen members all slot value
+  pub chosen : (slot : ℕ) (value : Value) → slice_get values slot ≡ Some value → IsChosenByRecords members all slot value
   pub ends : All (λ message. message.slot ≢ length values) told

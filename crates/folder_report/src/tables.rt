@@ -4,7 +4,7 @@ ghost use Rattle.std.specs.Prelude.{◌≡◌, ◌≤◌, List, length, map, IfO
 ghost use Rattle.ballots.specs.declared.value.Value.{Value as Agreed};
 ghost use Rattle.table_types.specs.Tables.{effective, table_names};
 ghost use Rattle.table_types.specs.Uploads.{Upload};
-ghost use Rattle.table_versions.specs.State.{HasTaken, values_limit};
+ghost use Rattle.table_versions.specs.State.{HasTaken, agreed_values_limit};
 ghost use Rattle.table_versions.specs.Values.{AreUploadsIn};
 ghost use Rattle.folder_report.specs.Reporting.{TellsTables, latest_in, told_table};
 
@@ -21,7 +21,7 @@ pub(crate) fn tables_of(
     hashing: RandomState,
     values: &[Value],
 ) -> Result<Vec<TableReport>, OutOfMemory>
-    requires { length values.now ≤ values_limit }
+    requires { length values.now ≤ agreed_values_limit }
     ensures { IfOk result (λ tables. TellsTables values.now tables.items) }
 {
     let tables = tables_with(alloc, hashing, values)?;
@@ -30,7 +30,7 @@ pub(crate) fn tables_of(
 
 // The tables that took these values.
 fn tables_with(alloc: Global, hashing: RandomState, values: &[Value]) -> Result<Tables, OutOfMemory>
-    requires { length values.now ≤ values_limit }
+    requires { length values.now ≤ agreed_values_limit }
     ensures { IfOk result (λ tables. HasTaken tables values.now) }
 {
     same_tables_hold_the_same();

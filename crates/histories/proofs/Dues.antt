@@ -17,15 +17,15 @@ use Rattle.acceptor.specs.declared.answer.Answer.{Answer}
 use Rattle.acceptor.specs.declared.answer.Answer.TheVariants as answer
 use Rattle.acceptor.specs.Answering.{Prepares, Accepts}
 use Rattle.acceptor.specs.Restored.{promise_in, acceptance_in, IsRestored, IsHighestRound, round_in}
-use Rattle.proposer.specs.Call.{Begun, Promise, Call as Asked, Promises, Nacks}
+use Rattle.proposer.specs.Call.{OneSlot, Begun, Promise, ProposerCall as Asked, Promises, Nacks}
 use Rattle.proposer.specs.Choosing.{HasMajority}
 use Rattle.proposer.specs.Attempting.{next_ballot, IsOpen, answering, Answers}
-use Rattle.learner.specs.Calls.{Call as Told}
+use Rattle.learner.specs.Calls.{LearnerCall as Told}
 use Rattle.learner.specs.Calls as told
 use Rattle.decided_log.specs.Asked.{asked_of}
 use Rattle.lawful_histories.specs.Saying.{Saying, saying, of_one, says, sayings}
 use Rattle.lawful_histories.specs.Saying as say
-use Rattle.agreement_rules.specs.Views.{Config, Views, HasPrefix}
+use Rattle.agreement_rules.specs.Views.{AgreementConfig, Views, HasPrefix}
 use Rattle.agreement_rules.specs.Due.{Plan, Due, Refuses, Plans, Aim, Attempts, AsksFrom, quietly, begins, answers_with, sends_alone, also_proposes, has_seen, accept_of, ReplyToPrepare, ReplyToAccept, AimIsDue, TickIsDue}
 use Rattle.histories.specs.Due.{LearnsOf, BodyIsDue, PutIsDue, waits_too, MessageIsDue}
 use Rattle.histories.proofs.Lists.{nothing_in, only_one, last_or_before, into_map, last_given}
@@ -95,7 +95,7 @@ allows_its_slot : (members : ℕ) (WasSaid : ℕ → Saying → Type 0) (slot : 
     → (s : ℕ) → AllowsSaying members (WasSaid s) (of_one slot s x)
 allows_its_slot members WasSaid slot x may = of_each_slot (λ s y. AllowsSaying members (WasSaid s) y) slot x may (λ s. tt)
 
-module _ (laws : Laws) (config : Config) (sent : List Message) (next me : ℕ) (lawful : AreAllowed config.members sent next)
+module _ (laws : Laws) (config : AgreementConfig) (sent : List Message) (next me : ℕ) (lawful : AreAllowed config.members sent next)
     (views : Views) (knows : KnowsRecords (WasSaidBefore sent next) me views.records) (calls : KnowsViews config.members (WasSaidBefore sent next) me views) where
   abbrev WasSaid : ℕ → Saying → Type 0
   WasSaid s x = WasSaidBefore sent next s x
@@ -175,6 +175,7 @@ module _ (laws : Laws) (config : Config) (sent : List Message) (next me : ℕ) (
       (promise_is_allowed WasSaid me views.records old knows restored slot ballot prepares.0)) tt)
   of_prepare slot ballot old new (answer.Nack promised) plan restored prepares is = subst Kept (sym is) (refused slot ballot promised)
   of_prepare slot ballot old new answer.Granted plan restored prepares is = absurd is
+  of_prepare slot ballot old new (answer.PromiseFrom reports) plan restored prepares is = absurd is
 
   -- ---- an Accept
 
@@ -186,6 +187,7 @@ module _ (laws : Laws) (config : Config) (sent : List Message) (next me : ℕ) (
       (accepted_is_allowed WasSaid me views.records old knows restored slot x was accepts.0) tt)
   of_accept slot x old new (answer.Nack promised) plan was restored accepts is = subst Kept (sym is) (refused slot x.ballot promised)
   of_accept slot x old new (answer.Promise report) plan was restored accepts is = absurd is
+  of_accept slot x old new (answer.PromiseFrom reports) plan was restored accepts is = absurd is
 
   -- ---- a Promise
 
@@ -207,6 +209,7 @@ module _ (laws : Laws) (config : Config) (sent : List Message) (next me : ℕ) (
   heard_too call was = record {
     promises = calls.promises;
     begun = calls.begun;
+    plain = calls.plain;
     complete = calls.complete;
     told_of = λ c has. elim (last_or_before views.learner_calls call c has) as (λ _. WasTold WasSaid c) [
       | inl there ↦ calls.told_of c there
@@ -300,7 +303,7 @@ module _ (laws : Laws) (config : Config) (sent : List Message) (next me : ℕ) (
       covered = λ m has. subst (λ (x : Message). Covers me (views.records ++ Began ballot ∷ []) x) (sym (only_one asks m has))
           (covers_its_slot me (views.records ++ Began ballot ∷ []) slot (say.Prepare ballot) tt);
       own = λ m has. subst (λ (x : Message). IsOwn me x) (sym (only_one asks m has)) (owns_its_slot me slot (say.Prepare ballot) tt);
-      calls = begun_too config.members WasSaid me views.records views.proposer_calls views.learner_calls calls (record { slot = slot; seen_round = views.seen_round; candidate = value; ballot = ballot }) own fresh;
+      calls = begun_too config.members WasSaid me views.records views.proposer_calls views.learner_calls calls (record { slot = slot; reach = OneSlot; seen_round = views.seen_round; candidate = value; ballot = ballot }) own refl fresh;
       apart = λ b since is_open s v has. absurd (no_accept (says asks s) (proposes_nothing slot (say.Prepare ballot) tt s) b.ballot v (only_says asks s (say.Accept b.ballot v) has));
       allowed = inl (asks, refl, allows_its_slot config.members WasSaid slot (say.Prepare ballot) tt);
     }
@@ -332,7 +335,7 @@ module _ (laws : Laws) (config : Config) (sent : List Message) (next me : ℕ) (
   of_put text (Plans plan) (inr (not, unknown, left, is)) = subst Kept (sym is) (quiet (waits_too views text) refl calls)
 
 -- a message that was sent, by a node that has seen its round
-pub of_message : (laws : Laws) (config : Config) (sent : List Message) (next me : ℕ) → AreAllowed config.members sent next
+pub of_message : (laws : Laws) (config : AgreementConfig) (sent : List Message) (next me : ℕ) → AreAllowed config.members sent next
     → (views : Views) → KnowsRecords (WasSaidBefore sent next) me views.records → KnowsViews config.members (WasSaidBefore sent next) me views
     → (m : Message) (due : Due) → ((s : ℕ) → WasSaidBefore sent next s (says m s)) → MessageIsDue config me views m due → KeepsIfPlanned config.members sent next me views.records due
 of_message laws config sent next me lawful views knows calls m (Refuses refusal) was is = tt

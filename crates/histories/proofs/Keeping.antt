@@ -9,7 +9,7 @@ use Rattle.ballots.specs.declared.record.Record.{Record}
 use Rattle.table_types.specs.Uploads.{Upload}
 use Rattle.table_types.specs.Tables.{effective, outcome_of}
 use Rattle.table_types.specs.Answers.{answer_of}
-use Rattle.agreement_rules.specs.Views.{Config, Views, started_with}
+use Rattle.agreement_rules.specs.Views.{AgreementConfig, Views, started_with}
 use Rattle.agreement_rules.specs.Due.{Plan, Refuses, Plans, TickIsDue, PartIsDue, has_seen}
 use Rattle.agreement_rules.specs.Keeping.{record_of}
 use Rattle.histories.specs.Due.{Input, IsDue, PutIsDue, BodyIsDue, MessageIsDue, LearnsOf}
@@ -18,8 +18,8 @@ use Rattle.histories.specs.Event.{Event, is_restart}
 use Rattle.histories.specs.Event as event
 use Rattle.histories.specs.EventResult.{EventResult, is_done}
 use Rattle.histories.specs.EventResult as results
-use Rattle.histories.specs.Following.{Seat, IsUp, IsDown, with_due, reason_of, PutGives, SendsGives, InputGives, CutGives, Delivers, GetGivesIfAble, InfoGivesIfAble, RestartGives, UpGives, RefusesAsDown, DownGives, SeatGives}
-use Rattle.histories.specs.Owning.{Entry, handed_in, sends_in, is_turned_away, OwnReaches}
+use Rattle.histories.specs.Following.{UpOrDown, IsUp, IsDown, with_due, reason_of, PutGives, SendsGives, InputGives, CutGives, Delivers, GetGivesIfAble, InfoGivesIfAble, RestartGives, UpGives, RefusesAsDown, DownGives, NodeGives}
+use Rattle.histories.specs.Owning.{OwnEntry, handed_in, sends_in, is_turned_away, OwnReaches}
 use Rattle.histories.specs.Keeping.{is_recovered, IsDueAtCut, if_recovered, AreKept, records_in}
 use Rattle.histories.proofs.Own.{handed_away, handed_there}
 
@@ -31,10 +31,10 @@ pub record KeepsItsSends (views : Views) (plan : Plan) : Type 0 where
   pub records : plan.after.records ≡ views.records ++ cons_option plan.kept []
 
 abbrev pub TicksKeep : Type 0
-TicksKeep = (config : Config) (me : ℕ) (views : Views) (left : ℕ) (plan : Plan) → TickIsDue config me views left (Plans plan) → KeepsItsSends views plan
+TicksKeep = (config : AgreementConfig) (me : ℕ) (views : Views) (left : ℕ) (plan : Plan) → TickIsDue config me views left (Plans plan) → KeepsItsSends views plan
 
 abbrev pub PartsKeep : Type 0
-PartsKeep = (config : Config) (me : ℕ) (views : Views) (sender slot : ℕ) (b : Body) (plan : Plan) → PartIsDue config me views sender slot b plan → KeepsItsSends views plan
+PartsKeep = (config : AgreementConfig) (me : ℕ) (views : Views) (sender slot : ℕ) (b : Body) (plan : Plan) → PartIsDue config me views sender slot b plan → KeepsItsSends views plan
 
 -- nothing is sent or kept
 quiet_keeps : (views after : Views) (plan : Plan) → plan ≡ record { kept = None; sends = []; after = after } → after.records ≡ views.records → KeepsItsSends views plan
@@ -43,12 +43,12 @@ quiet_keeps views after plan is same = record {
   records = ap (λ (p : Plan). p.after.records) is ∙ same ∙ sym (append-nil views.records) ∙ sym (ap (λ (p : Plan). views.records ++ cons_option p.kept []) is);
 }
 
-put_keeps : (config : Config) (views : Views) (text : List ℕ) (plan : Plan) → PutIsDue config views text (Plans plan) → KeepsItsSends views plan
+put_keeps : (config : AgreementConfig) (views : Views) (text : List ℕ) (plan : Plan) → PutIsDue config views text (Plans plan) → KeepsItsSends views plan
 put_keeps config views text plan (inl (known, is)) = quiet_keeps views views plan is refl
 put_keeps config views text plan (inr (new, unknown, left, is)) = quiet_keeps views _ plan is refl
 
 module _ (ticks : TicksKeep) (parts : PartsKeep) where
-  body_keeps : (config : Config) (me : ℕ) (views : Views) (sender slot : ℕ) (b : Body) (plan : Plan) → BodyIsDue config me views sender slot b plan → KeepsItsSends views plan
+  body_keeps : (config : AgreementConfig) (me : ℕ) (views : Views) (sender slot : ℕ) (b : Body) (plan : Plan) → BodyIsDue config me views sender slot b plan → KeepsItsSends views plan
   body_keeps config me views sender slot (body.Prepare ballot) plan is_due = parts config me views sender slot (body.Prepare ballot) plan is_due
   body_keeps config me views sender slot (body.Promise ballot report) plan is_due = parts config me views sender slot (body.Promise ballot report) plan is_due
   body_keeps config me views sender slot (body.Nack ballot promised) plan is_due = parts config me views sender slot (body.Nack ballot promised) plan is_due
@@ -57,7 +57,7 @@ module _ (ticks : TicksKeep) (parts : PartsKeep) where
   body_keeps config me views sender slot body.Ask plan is_due = parts config me views sender slot body.Ask plan is_due
   body_keeps config me views sender slot (body.Decided value) plan (uploads, left, has, waits, is) = quiet_keeps views _ plan is refl
 
-  input_keeps : (config : Config) (me : ℕ) (views : Views) (asked : Input) (plan : Plan) → IsDue config me views asked (Plans plan) → KeepsItsSends views plan
+  input_keeps : (config : AgreementConfig) (me : ℕ) (views : Views) (asked : Input) (plan : Plan) → IsDue config me views asked (Plans plan) → KeepsItsSends views plan
   input_keeps config me views (input.Put text) plan is_due = put_keeps config views text plan is_due
   input_keeps config me views (input.Tick left) plan is_due = ticks config me views left plan is_due
   input_keeps config me views (input.Deliver m) plan (is_of, is_due) =
@@ -67,12 +67,12 @@ module _ (ticks : TicksKeep) (parts : PartsKeep) where
 -- ---- what stands at the end
 
 -- what the node has in the end, where it was so, is what it had, with the record that was in doubt if that is recovered, and these
-abbrev Ends : Seat → Bool → Seat → List Record → Type 0
+abbrev Ends : UpOrDown → Bool → UpOrDown → List Record → Type 0
 Ends last recovered (IsUp views) more = records_in last ≡ views.records ++ more
 Ends last recovered (IsDown records due) more = records_in last ≡ records ++ (if_recovered recovered due ++ more)
 
-ends_at : (last : Seat) (recovered : Bool) (after seat : Seat) (more : List Record) → after ≡ seat → Ends last recovered after more → Ends last recovered seat more
-ends_at last recovered after seat more same ends = subst (λ (s : Seat). Ends last recovered s more) same ends
+ends_at : (last : UpOrDown) (recovered : Bool) (after seat : UpOrDown) (more : List Record) → after ≡ seat → Ends last recovered after more → Ends last recovered seat more
+ends_at last recovered after seat more same ends = subst (λ (s : UpOrDown). Ends last recovered s more) same ends
 
 none_recovered : (due : Option Record) → if_recovered false due ≡ []
 none_recovered None = refl
@@ -83,7 +83,7 @@ due_recovered recovered records None = sym (append-nil records)
 due_recovered true records (Some due) = refl
 due_recovered false records (Some due) = sym (append-nil records)
 
-at_end : (last seat : Seat) → last ≡ seat → Ends last false seat []
+at_end : (last seat : UpOrDown) → last ≡ seat → Ends last false seat []
 at_end last (IsUp views) same = ap records_in same ∙ sym (append-nil views.records)
 at_end last (IsDown records due) same =
     ap records_in same ∙ sym (append-nil records) ∙ sym (ap (λ (l : List Record). records ++ (l ++ [])) (none_recovered due))
@@ -94,18 +94,18 @@ at_end last (IsDown records due) same =
 abbrev NextRecovers : Event → EventResult → Bool → Bool → Bool
 NextRecovers e given recovered later = if is_restart e && is_done given then recovered else later
 
-record Piece (config : Config) (last : Seat) (later : Bool) (more : List Record) (seat : Seat) (e : Event) (given : EventResult) (recovered : Bool) (handed : Option Message)
+record Piece (config : AgreementConfig) (last : UpOrDown) (later : Bool) (more : List Record) (seat : UpOrDown) (e : Event) (given : EventResult) (recovered : Bool) (handed : Option Message)
     (sends : List Message) : Type 0 where
   due : Option Record
   at_cut : IsDueAtCut config seat e handed due
   ends : Ends last (NextRecovers e given recovered later) seat (filter_map record_of sends ++ (if_recovered later due ++ more))
 
-module _ (ticks : TicksKeep) (parts : PartsKeep) (config : Config) (last : Seat) (later : Bool) (more : List Record) (sent : List Message) (next : ℕ) where
+module _ (ticks : TicksKeep) (parts : PartsKeep) (config : AgreementConfig) (last : UpOrDown) (later : Bool) (more : List Record) (sent : List Message) (next : ℕ) where
   -- nothing goes out
   sends_none : (given other : EventResult) (sends : List Message) → given ≡ other → sends_in sent other ≡ [] → sends_in sent given ≡ sends → filter_map record_of sends ≡ []
   sends_none given other sends is none are = ap (filter_map record_of) (sym are ∙ ap (sends_in sent) is ∙ none)
 
-  module _ (views : Views) (given : EventResult) (sends : List Message) (are : sends_in sent given ≡ sends) (after : Seat) (ends : Ends last later after more) where
+  module _ (views : Views) (given : EventResult) (sends : List Message) (are : sends_in sent given ≡ sends) (after : UpOrDown) (ends : Ends last later after more) where
     abbrev EndsHere : Option Record → Type 0
     EndsHere due = records_in last ≡ views.records ++ (filter_map record_of sends ++ (if_recovered later due ++ more))
 
@@ -141,14 +141,14 @@ module _ (ticks : TicksKeep) (parts : PartsKeep) (config : Config) (last : Seat)
         let keeps = put_keeps config views text plan is_due in
         stays plan.after results.Done is refl same (keeps.records ∙ ap (λ (o : Option Record). views.records ++ cons_option o []) none ∙ append-nil views.records)
       where
-        put_keeps_none : (config : Config) (views : Views) (text : List ℕ) (plan : Plan) → PutIsDue config views text (Plans plan) → plan.kept ≡ None
+        put_keeps_none : (config : AgreementConfig) (views : Views) (text : List ℕ) (plan : Plan) → PutIsDue config views text (Plans plan) → plan.kept ≡ None
         put_keeps_none config views text plan (inl (known, is)) = ap (λ (p : Plan). p.kept) is
         put_keeps_none config views text plan (inr (new, unknown, left, is)) = ap (λ (p : Plan). p.kept) is
     of_put node text (inr (allowed, (is, same))) = stays views (results.Refused results.OutOfMemory) is refl same refl
 
   -- ---- a node that is up
 
-  module _ (views : Views) (recovered : Bool) (given : EventResult) (handed : Option Message) (sends : List Message) (after : Seat)
+  module _ (views : Views) (recovered : Bool) (given : EventResult) (handed : Option Message) (sends : List Message) (after : UpOrDown)
       (are : sends_in sent given ≡ sends) (ends : Ends last later after more) where
     abbrev PieceOf : Event → Type 0
     PieceOf e = Piece config last later more (IsUp views) e given recovered handed sends
@@ -220,9 +220,9 @@ module _ (ticks : TicksKeep) (parts : PartsKeep) (config : Config) (last : Seat)
 
   -- ---- a node that is down
 
-  module _ (records : List Record) (pending : Option Record) (recovered : Bool) (given : EventResult) (handed : Option Message) (sends : List Message) (after : Seat)
+  module _ (records : List Record) (pending : Option Record) (recovered : Bool) (given : EventResult) (handed : Option Message) (sends : List Message) (after : UpOrDown)
       (are : sends_in sent given ≡ sends) (ends : Ends last later after more) where
-    abbrev Was : Seat
+    abbrev Was : UpOrDown
     Was = IsDown records pending
 
     abbrev AfterDown : Bool → Type 0
@@ -274,8 +274,8 @@ module _ (ticks : TicksKeep) (parts : PartsKeep) (config : Config) (last : Seat)
     down_piece (event.Info node table) gives = refused_piece (event.Info node table) refl gives refl
     down_piece (event.Outcome node text) gives = refused_piece (event.Outcome node text) refl gives refl
 
-  seat_piece : (seat : Seat) (recovered : Bool) (e : Event) (given : EventResult) (handed : Option Message) (sends : List Message) (after : Seat)
-      → handed_in sent (record { event = e; result = given }) ≡ handed → sends_in sent given ≡ sends → SeatGives config sent next recovered seat e given after
+  seat_piece : (seat : UpOrDown) (recovered : Bool) (e : Event) (given : EventResult) (handed : Option Message) (sends : List Message) (after : UpOrDown)
+      → handed_in sent (record { event = e; result = given }) ≡ handed → sends_in sent given ≡ sends → NodeGives config sent next recovered seat e given after
       → Ends last later after more → Piece config last later more seat e given recovered handed sends
   seat_piece (IsUp views) recovered e given handed sends after is_handed are gives ends = up_piece views recovered given handed sends after are ends e is_handed gives
   seat_piece (IsDown records pending) recovered e given handed sends after is_handed are gives ends =
@@ -284,12 +284,12 @@ module _ (ticks : TicksKeep) (parts : PartsKeep) (config : Config) (last : Seat)
 -- ---- all entries
 
 -- these records are kept, and they are what the node has in the end beside what it had
-pub record Kept (config : Config) (seat : Seat) (entries : List Entry) (last : Seat) : Type 0 where
+pub record Kept (config : AgreementConfig) (seat : UpOrDown) (entries : List OwnEntry) (last : UpOrDown) : Type 0 where
   pub records : List Record
   pub kept : AreKept config seat entries records
   pub ends : Ends last (is_recovered entries) seat records
 
-pub own_keeps : TicksKeep → PartsKeep → (config : Config) (last : Seat) (entries : List Entry) (seat : Seat) → OwnReaches config seat entries last → Kept config seat entries last
+pub own_keeps : TicksKeep → PartsKeep → (config : AgreementConfig) (last : UpOrDown) (entries : List OwnEntry) (seat : UpOrDown) → OwnReaches config seat entries last → Kept config seat entries last
 own_keeps ticks parts config last [] seat same = record { records = []; kept = refl; ends = at_end last seat same }
 own_keeps ticks parts config last (entry ∷ entries) seat (after, leads, rest) =
     let behind = own_keeps ticks parts config last entries after rest in
@@ -302,7 +302,7 @@ own_keeps ticks parts config last (entry ∷ entries) seat (after, leads, rest) 
     }
 
 -- what a node that had nothing has in the end are the records that it kept
-pub kept_from_nothing : TicksKeep → PartsKeep → (config : Config) (entries : List Entry) (last : Seat) → OwnReaches config (IsUp (started_with [])) entries last
+pub kept_from_nothing : TicksKeep → PartsKeep → (config : AgreementConfig) (entries : List OwnEntry) (last : UpOrDown) → OwnReaches config (IsUp (started_with [])) entries last
     → AreKept config (IsUp (started_with [])) entries (records_in last)
 kept_from_nothing ticks parts config entries last reaches =
     let it = own_keeps ticks parts config last entries (IsUp (started_with [])) reaches in

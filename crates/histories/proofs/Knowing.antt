@@ -10,15 +10,15 @@ use Rattle.ballots.specs.declared.record.Record.TheVariants.{Began, Promised, Ac
 use Rattle.ballots.specs.declared.message.Message.{Message}
 use Rattle.ballots.specs.Acceptance.{acceptance}
 use Rattle.acceptor.specs.Restored.{promise_in, acceptance_in}
-use Rattle.proposer.specs.Call.{Begun, Promise, Call as Asked, Begins, Promises}
+use Rattle.proposer.specs.Call.{OneSlot, Begun, Promise, ProposerCall as Asked, Begins, Promises}
 use Rattle.proposer.specs.Choosing.{HasMajority}
 use Rattle.proposer.specs.Attempting.{IsOpen, answering}
-use Rattle.learner.specs.Calls.{Call as Told}
+use Rattle.learner.specs.Calls.{LearnerCall as Told}
 use Rattle.learner.specs.Calls as told
 use Rattle.lawful_histories.specs.Saying.{Saying, says}
 use Rattle.lawful_histories.specs.Saying as say
 use Rattle.agreement_rules.specs.Views.{Views}
-use Rattle.histories.specs.Following.{Seat, IsUp, IsDown, with_due, recovered_in}
+use Rattle.histories.specs.Following.{UpOrDown, IsUp, IsDown, with_due, recovered_in}
 use Rattle.histories.proofs.Lists.{before_last, before_last_given, last_or_before_given}
 use Rattle.histories.proofs.Sayings.{OneSays}
 
@@ -87,6 +87,8 @@ pub record KnowsCalls (members : ℕ) (WasSaid : ℕ → Saying → Type 0) (me 
   pub promises : (p : Promise) → Contains asked (Promises p) → WasSaid p.slot (say.Promise p.sender p.ballot p.report)
   -- what it began is its own, with a record
   pub begun : (b : Begun) → Contains asked (Begins b) → (b.ballot.node ≡ me) × Contains records (Began b.ballot)
+  -- each attempt is for one slot
+  pub plain : (b : Begun) → Contains asked (Begins b) → b.reach ≡ OneSlot
   -- while the open attempt has no majority, nothing was proposed at its ballot
   pub complete : (b : Begun) (since : List Asked) → IsOpen asked b since → (s : ℕ) (v : Value) → WasSaid s (say.Accept b.ballot v)
       → HasMajority members (answering members b since)
@@ -96,11 +98,11 @@ pub record KnowsCalls (members : ℕ) (WasSaid : ℕ → Saying → Type 0) (me 
 abbrev pub KnowsViews : ℕ → (ℕ → Saying → Type 0) → ℕ → Views → Type 0
 KnowsViews members WasSaid me views = KnowsCalls members WasSaid me views.records views.proposer_calls views.learner_calls
 
-abbrev pub KnowsIfUp : ℕ → (ℕ → Saying → Type 0) → ℕ → Seat → Type 0
+abbrev pub KnowsIfUp : ℕ → (ℕ → Saying → Type 0) → ℕ → UpOrDown → Type 0
 KnowsIfUp members WasSaid me (IsUp views) = KnowsViews members WasSaid me views
 KnowsIfUp members WasSaid me (IsDown records due) = Unit {0}
 
-pub record KnowsSeat (members : ℕ) (WasSaid : ℕ → Saying → Type 0) (me : ℕ) (seat : Seat) : Type 0 where
+pub record KnowsSeat (members : ℕ) (WasSaid : ℕ → Saying → Type 0) (me : ℕ) (seat : UpOrDown) : Type 0 where
   pub records : (found : Bool) → KnowsRecords WasSaid me (recovered_in found seat)
   pub up : KnowsIfUp members WasSaid me seat
 
@@ -169,6 +171,7 @@ module _ (members : ℕ) (WasSaid Now : ℕ → Saying → Type 0) (ms : List Me
   calls_later me records asked heard knows apart = record {
     promises = λ p has. kept p.slot (say.Promise p.sender p.ballot p.report) (knows.promises p has);
     begun = knows.begun;
+    plain = knows.plain;
     complete = λ b since is_open s v now. elim (came s (say.Accept b.ballot v) now) as (λ _. HasMajority members (answering members b since)) [
       | inl was ↦ knows.complete b since is_open s v was
       | inr new ↦ apart b since is_open s v new

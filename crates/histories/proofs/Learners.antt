@@ -6,9 +6,9 @@ use Rattle.ballots.specs.Ballot.{Ballot}
 use Rattle.ballots.specs.declared.value.Value.{Value}
 use Rattle.ballots.specs.declared.message.Message.{Message}
 use Rattle.decided_log.specs.Asked.{decided_message, asked_of}
-use Rattle.learner.specs.Calls.{Call as Told, IsLearned}
+use Rattle.learner.specs.Calls.{LearnerCall as Told, IsLearned}
 use Rattle.learner.specs.Calls as told
-use Rattle.learner.specs.Votes.{IsDecidedOrChosen, IsChosen}
+use Rattle.learner.specs.Votes.{IsDecidedOrChosen, IsAcceptedByMajority}
 use Rattle.lawful_histories.specs.Saying.{Saying}
 use Rattle.lawful_histories.specs.Saying as say
 use Rattle.lawful_histories.specs.Messages.{decided}
@@ -39,7 +39,7 @@ module _ (learns : LearnerLaw) (members : ℕ) (WasSaid : ℕ → Saying → Typ
     accepted_alike a c b w one other =
         subst (λ (x : Value). WasSaid slot (say.Accepted a b x)) (one_value slot b w v (proposed slot a b w one) (proposed slot c b v other)) one
 
-    majority_chose : IsChosen members heard slot v → AllowsDecided members (WasSaid slot) v
+    majority_chose : IsAcceptedByMajority members heard slot v → AllowsDecided members (WasSaid slot) v
     majority_chose it = (
       it.ballot,
       record {

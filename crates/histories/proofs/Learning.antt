@@ -11,10 +11,10 @@ use Rattle.ballots.specs.declared.record.Record.{Record}
 use Rattle.ballots.specs.declared.acceptance.Acceptance.{Acceptance}
 use Rattle.acceptor.specs.declared.answer.Answer.{Answer}
 use Rattle.acceptor.specs.declared.answer.Answer.TheVariants as answer
-use Rattle.learner.specs.Calls.{Call as Told}
+use Rattle.learner.specs.Calls.{LearnerCall as Told}
 use Rattle.learner.specs.Calls as told
 use Rattle.table_types.specs.Uploads.{Upload}
-use Rattle.agreement_rules.specs.Views.{Config, Views}
+use Rattle.agreement_rules.specs.Views.{AgreementConfig, Views}
 use Rattle.histories.specs.Texts.{HasUploads}
 use Rattle.agreement_rules.specs.Due.{Due, Plan, Refuses, Plans, Aim, Attempts, AsksFrom, AsksAt, AimIsDue, TickIsDue, ReplyToPrepare, ReplyToAccept, has_seen}
 use Rattle.histories.specs.Due.{Input, PutIsDue, BodyIsDue, MessageIsDue, IsDue}
@@ -24,8 +24,8 @@ use Rattle.histories.specs.Event.{Event}
 use Rattle.histories.specs.Event as event
 use Rattle.histories.specs.EventResult.{EventResult}
 use Rattle.histories.specs.EventResult as results
-use Rattle.histories.specs.Following.{Seat, IsUp, IsDown, down, PutGives, SendsGives, InputGives, CutGives, Delivers, GetGivesIfAble, InfoGivesIfAble, OutcomeGives, QuestionGives, RestartGives, UpGives, RefusesAsDown, DownGives, SeatGives}
-use Rattle.histories.specs.Owning.{is_question}
+use Rattle.histories.specs.Following.{UpOrDown, IsUp, IsDown, down, PutGives, SendsGives, InputGives, CutGives, Delivers, GetGivesIfAble, InfoGivesIfAble, OutcomeGives, QueryGives, RestartGives, UpGives, RefusesAsDown, DownGives, NodeGives}
+use Rattle.histories.specs.Owning.{is_query}
 use Rattle.histories.proofs.Own.{is_sent, false_is_true}
 
 -- ---- what a plan tells the learner
@@ -40,22 +40,22 @@ call_of sender slot (body.Accepted acceptance) = Some (told.Accepted sender slot
 call_of sender slot body.Ask = None
 call_of sender slot (body.Decided value) = Some (told.Decided slot value)
 
-put_tells : (config : Config) (views : Views) (text : List ℕ) (plan : Plan) → PutIsDue config views text (Plans plan) → plan.after.learner_calls ≡ views.learner_calls
+put_tells : (config : AgreementConfig) (views : Views) (text : List ℕ) (plan : Plan) → PutIsDue config views text (Plans plan) → plan.after.learner_calls ≡ views.learner_calls
 put_tells config views text plan (inl (known, is)) = ap (λ (p : Plan). p.after.learner_calls) is
 put_tells config views text plan (inr (new, unknown, left, is)) = ap (λ (p : Plan). p.after.learner_calls) is
 
-asks_tells : (config : Config) (me : ℕ) (views : Views) (slot : ℕ) (plan : Plan) → AsksAt config me views slot plan → plan.after.learner_calls ≡ views.learner_calls
+asks_tells : (config : AgreementConfig) (me : ℕ) (views : Views) (slot : ℕ) (plan : Plan) → AsksAt config me views slot plan → plan.after.learner_calls ≡ views.learner_calls
 asks_tells config me views slot plan (inl (lt, is)) = ap (λ (p : Plan). p.after.learner_calls) is
 asks_tells config me views slot plan (inr (last, is)) = ap (λ (p : Plan). p.after.learner_calls) is
 
-aim_tells : (config : Config) (me : ℕ) (views : Views) (aim : Aim) (plan : Plan) → AimIsDue config me views aim (Plans plan) → plan.after.learner_calls ≡ views.learner_calls
+aim_tells : (config : AgreementConfig) (me : ℕ) (views : Views) (aim : Aim) (plan : Plan) → AimIsDue config me views aim (Plans plan) → plan.after.learner_calls ≡ views.learner_calls
 aim_tells config me views (Attempts slot value) plan (highest, lt, is_highest, less, is) = ap (λ (p : Plan). p.after.learner_calls) is
 aim_tells config me views (AsksFrom slot) plan asks = asks_tells config me views slot plan asks
 
 refused_plan : (r : due.Refusal) (plan : Plan) → (let d : Due = Plans plan in d) ≡ Refuses r → ⊥
 refused_plan r plan same = cc
 
-tick_tells : (config : Config) (me : ℕ) (views : Views) (left : ℕ) (plan : Plan) → TickIsDue config me views left (Plans plan) → plan.after.learner_calls ≡ views.learner_calls
+tick_tells : (config : AgreementConfig) (me : ℕ) (views : Views) (left : ℕ) (plan : Plan) → TickIsDue config me views left (Plans plan) → plan.after.learner_calls ≡ views.learner_calls
 tick_tells config me views left plan (inl (more, is)) = absurd (refused_plan due.OutOfRange plan is)
 tick_tells config me views left plan (inr (aim, le, is_aim, is)) = aim_tells config me views aim plan is
 
@@ -64,14 +64,16 @@ prepare_tells : (me : ℕ) (views : Views) (slot : ℕ) (ballot : Ballot) (reply
 prepare_tells me views slot ballot (answer.Promise report) plan is = ap (λ (p : Plan). p.after.learner_calls) is
 prepare_tells me views slot ballot (answer.Nack promised) plan is = ap (λ (p : Plan). p.after.learner_calls) is
 prepare_tells me views slot ballot answer.Granted plan never = absurd never
+prepare_tells me views slot ballot (answer.PromiseFrom reports) plan never = absurd never
 
 accept_tells : (me : ℕ) (views : Views) (slot : ℕ) (proposal : Acceptance) (reply : Answer) (plan : Plan) → ReplyToAccept me views slot proposal reply plan
     → plan.after.learner_calls ≡ views.learner_calls
 accept_tells me views slot proposal answer.Granted plan is = ap (λ (p : Plan). p.after.learner_calls) is
 accept_tells me views slot proposal (answer.Nack promised) plan is = ap (λ (p : Plan). p.after.learner_calls) is
 accept_tells me views slot proposal (answer.Promise report) plan never = absurd never
+accept_tells me views slot proposal (answer.PromiseFrom reports) plan never = absurd never
 
-body_tells : (config : Config) (me : ℕ) (views : Views) (sender slot : ℕ) (b : Body) (plan : Plan) → BodyIsDue config me views sender slot b plan
+body_tells : (config : AgreementConfig) (me : ℕ) (views : Views) (sender slot : ℕ) (b : Body) (plan : Plan) → BodyIsDue config me views sender slot b plan
     → plan.after.learner_calls ≡ views.learner_calls ++ cons_option (call_of sender slot b) []
 unfolding call_of
 body_tells config me views sender slot (body.Prepare ballot) plan (old, new, reply, restored, prepares, is) =
@@ -93,28 +95,28 @@ told_by (Some m) = cons_option (call_of m.sender m.slot m.body) []
 abbrev told_if : Bool → List Told → List Told
 told_if b calls = if b then calls else []
 
-message_tells : (config : Config) (me : ℕ) (views : Views) (m : Message) (plan : Plan) → MessageIsDue config me views m (Plans plan)
+message_tells : (config : AgreementConfig) (me : ℕ) (views : Views) (m : Message) (plan : Plan) → MessageIsDue config me views m (Plans plan)
     → plan.after.learner_calls ≡ views.learner_calls ++ told_by (Some m)
 unfolding told_by
 message_tells config me views m plan (is_of, is) = body_tells config me (has_seen views m) m.sender m.slot m.body plan is
 
 -- the node is up, and its learner was told this besides
-record Hears (views : Views) (more : List Told) (new : Seat) : Type 0 where
+record Hears (views : Views) (more : List Told) (new : UpOrDown) : Type 0 where
   after : Views
   is_up : new ≡ IsUp after
   tells : after.learner_calls ≡ views.learner_calls ++ more
 
-stays_up : (views : Views) (more : List Told) (new : Seat) → more ≡ [] → new ≡ IsUp views → Hears views more new
+stays_up : (views : Views) (more : List Told) (new : UpOrDown) → more ≡ [] → new ≡ IsUp views → Hears views more new
 stays_up views more new none same = record {
   after = views;
   is_up = same;
   tells = sym (append-nil views.learner_calls) ∙ ap (λ (l : List Told). views.learner_calls ++ l) (sym none);
 }
 
-goes_on : (views after : Views) (new : Seat) → after.learner_calls ≡ views.learner_calls → new ≡ IsUp after → Hears views [] new
+goes_on : (views after : Views) (new : UpOrDown) → after.learner_calls ≡ views.learner_calls → new ≡ IsUp after → Hears views [] new
 goes_on views after new same is = record { after = after; is_up = is; tells = same ∙ sym (append-nil views.learner_calls) }
 
-module _ (config : Config) (sent : List Message) (next : ℕ) (node : ℕ) (views : Views) (given : EventResult) (new : Seat) where
+module _ (config : AgreementConfig) (sent : List Message) (next : ℕ) (node : ℕ) (views : Views) (given : EventResult) (new : UpOrDown) where
   put_hears : (text : List ℕ) → InputGives config node views (input.Put text) (PutGives views) given new → Hears views [] new
   put_hears text (inl (Refuses refusal, is_due, (is, same))) = stays_up views [] new refl same
   put_hears text (inl (Plans plan, is_due, (is, same))) = goes_on views plan.after new (put_tells config views text plan is_due) same
@@ -144,39 +146,39 @@ module _ (config : Config) (sent : List Message) (next : ℕ) (node : ℕ) (view
 -- ---- two nodes
 
 -- both are down, or both are up and were told alike
-abbrev pub Alike : Seat → Seat → Type 0
+abbrev pub Alike : UpOrDown → UpOrDown → Type 0
 Alike (IsUp a) (IsUp b) = a.learner_calls ≡ b.learner_calls
 Alike (IsUp a) (IsDown records due) = ⊥
 Alike (IsDown records due) (IsUp b) = ⊥
 Alike (IsDown records due) (IsDown others other) = Unit {0}
 
-pub alike_same : (seat : Seat) → Alike seat seat
+pub alike_same : (seat : UpOrDown) → Alike seat seat
 alike_same (IsUp a) = refl
 alike_same (IsDown records due) = tt
 
-alike_along : (a b new after : Seat) → new ≡ a → after ≡ b → Alike a b → Alike new after
-alike_along a b new after is_a is_b alike = subst (λ (s : Seat). Alike s after) (sym is_a) (subst (λ (s : Seat). Alike a s) (sym is_b) alike)
+alike_along : (a b new after : UpOrDown) → new ≡ a → after ≡ b → Alike a b → Alike new after
+alike_along a b new after is_a is_b alike = subst (λ (s : UpOrDown). Alike s after) (sym is_a) (subst (λ (s : UpOrDown). Alike a s) (sym is_b) alike)
 
-both_hear : (a b : Views) (more : List Told) (new after : Seat) → a.learner_calls ≡ b.learner_calls → Hears a more new → Hears b more after → Alike new after
+both_hear : (a b : Views) (more : List Told) (new after : UpOrDown) → a.learner_calls ≡ b.learner_calls → Hears a more new → Hears b more after → Alike new after
 both_hear a b more new after alike one two =
     alike_along (IsUp one.after) (IsUp two.after) new after one.is_up two.is_up (one.tells ∙ ap (λ (l : List Told). l ++ more) alike ∙ sym two.tells)
 
-record GoesDown (new : Seat) : Type 0 where
+record GoesDown (new : UpOrDown) : Type 0 where
   records : List Record
   due : Option Record
   is_down : new ≡ IsDown records due
 
-both_down : (new after : Seat) → GoesDown new → GoesDown after → Alike new after
+both_down : (new after : UpOrDown) → GoesDown new → GoesDown after → Alike new after
 both_down new after one two = alike_along (IsDown one.records one.due) (IsDown two.records two.due) new after one.is_down two.is_down tt
 
-cut_down : (config : Config) (node : ℕ) (views : Views) (asked : Input) (given : EventResult) (new : Seat) → CutGives config node views asked given new → GoesDown new
+cut_down : (config : AgreementConfig) (node : ℕ) (views : Views) (asked : Input) (given : EventResult) (new : UpOrDown) → CutGives config node views asked given new → GoesDown new
 cut_down config node views asked given new (is, (kept, keeps, same)) = record { records = views.records; due = kept; is_down = same }
 
-down_goes : (seat : Seat) → GoesDown (down seat)
+down_goes : (seat : UpOrDown) → GoesDown (down seat)
 down_goes (IsUp views) = record { records = views.records; due = None; is_down = refl }
 down_goes (IsDown records due) = record { records = records; due = due; is_down = refl }
 
-both_restart : (found : Bool) (old seat : Seat) (given : EventResult) (new after : Seat) → RestartGives found old given new → RestartGives found seat given after → Alike new after
+both_restart : (found : Bool) (old seat : UpOrDown) (given : EventResult) (new after : UpOrDown) → RestartGives found old given new → RestartGives found seat given after → Alike new after
 both_restart found old seat given new after (inl (is, same)) (inl (was, stays)) = alike_along _ _ new after same stays refl
 both_restart found old seat given new after (inl (is, same)) (inr (was, stays)) =
     absurd (let no : results.Done ≡ results.Refused results.OutOfMemory = sym is ∙ was in cc)
@@ -185,8 +187,8 @@ both_restart found old seat given new after (inr (is, same)) (inl (was, stays)) 
 both_restart found old seat given new after (inr (is, same)) (inr (was, stays)) =
     alike_along (down old) (down seat) new after same stays (both_down (down old) (down seat) (down_goes old) (down_goes seat))
 
-module _ (config : Config) (sent : List Message) (next : ℕ) (found : Bool) where
-  both_up : (a b : Views) (e : Event) (given : EventResult) (new after : Seat) → is_question e ≡ false → a.learner_calls ≡ b.learner_calls → UpGives config sent next found a e given new
+module _ (config : AgreementConfig) (sent : List Message) (next : ℕ) (found : Bool) where
+  both_up : (a b : Views) (e : Event) (given : EventResult) (new after : UpOrDown) → is_query e ≡ false → a.learner_calls ≡ b.learner_calls → UpGives config sent next found a e given new
       → UpGives config sent next found b e given after → Alike new after
   both_up a b (event.Put node text) given new after changes alike one two =
       both_hear a b [] new after alike (put_hears config sent next node a given new text one) (put_hears config sent next node b given after text two)
@@ -208,10 +210,10 @@ module _ (config : Config) (sent : List Message) (next : ℕ) (found : Bool) whe
   both_up a b (event.Info node table) given new after changes alike one two = absurd (false_is_true (sym changes))
   both_up a b (event.Outcome node text) given new after changes alike one two = absurd (false_is_true (sym changes))
 
-  both_away : (old seat : Seat) (given : EventResult) (new after : Seat) → Alike old seat → RefusesAsDown old given new → RefusesAsDown seat given after → Alike new after
+  both_away : (old seat : UpOrDown) (given : EventResult) (new after : UpOrDown) → Alike old seat → RefusesAsDown old given new → RefusesAsDown seat given after → Alike new after
   both_away old seat given new after alike (is, same) (was, stays) = alike_along old seat new after same stays alike
 
-  both_were_down : (old seat : Seat) (e : Event) (given : EventResult) (new after : Seat) → Alike old seat → DownGives found old e given new → DownGives found seat e given after
+  both_were_down : (old seat : UpOrDown) (e : Event) (given : EventResult) (new after : UpOrDown) → Alike old seat → DownGives found old e given new → DownGives found seat e given after
       → Alike new after
   both_were_down old seat (event.Put node text) given new after alike one two = both_away old seat given new after alike one two
   both_were_down old seat (event.Tick node left) given new after alike one two = both_away old seat given new after alike one two
@@ -223,8 +225,8 @@ module _ (config : Config) (sent : List Message) (next : ℕ) (found : Bool) whe
   both_were_down old seat (event.Info node table) given new after alike one two = both_away old seat given new after alike one two
   both_were_down old seat (event.Outcome node text) given new after alike one two = both_away old seat given new after alike one two
 
-  pub alike_then : (old seat : Seat) (e : Event) (given : EventResult) (new after : Seat) → is_question e ≡ false → Alike old seat → SeatGives config sent next found old e given new
-      → SeatGives config sent next found seat e given after → Alike new after
+  pub alike_then : (old seat : UpOrDown) (e : Event) (given : EventResult) (new after : UpOrDown) → is_query e ≡ false → Alike old seat → NodeGives config sent next found old e given new
+      → NodeGives config sent next found seat e given after → Alike new after
   alike_then (IsUp a) (IsUp b) e given new after changes alike one two = both_up a b e given new after changes alike one two
   alike_then (IsUp a) (IsDown records due) e given new after changes alike one two = absurd alike
   alike_then (IsDown records due) (IsUp b) e given new after changes alike one two = absurd alike
@@ -233,12 +235,12 @@ module _ (config : Config) (sent : List Message) (next : ℕ) (found : Bool) whe
 
   -- ---- questions
 
-  same_question : (a b : Views) (Gives : List Upload → EventResult → Type 0) (given : EventResult) (after : Seat) → a.learner_calls ≡ b.learner_calls → QuestionGives config b Gives given after
-      → QuestionGives config a Gives given (IsUp a)
+  same_question : (a b : Views) (Gives : List Upload → EventResult → Type 0) (given : EventResult) (after : UpOrDown) → a.learner_calls ≡ b.learner_calls → QueryGives config b Gives given after
+      → QueryGives config a Gives given (IsUp a)
   same_question a b Gives given after alike (uploads, has, gives, same) =
       (uploads, subst (λ (l : List Told). HasUploads config.members l uploads) (sym alike) has, gives, refl)
 
-  up_question : (a b : Views) (e : Event) (given : EventResult) (after : Seat) → is_question e ≡ true → a.learner_calls ≡ b.learner_calls → UpGives config sent next found b e given after
+  up_question : (a b : Views) (e : Event) (given : EventResult) (after : UpOrDown) → is_query e ≡ true → a.learner_calls ≡ b.learner_calls → UpGives config sent next found b e given after
       → UpGives config sent next found a e given (IsUp a)
   up_question a b (event.Put node text) given after asks alike gives = absurd (false_is_true asks)
   up_question a b (event.Tick node left) given after asks alike gives = absurd (false_is_true asks)
@@ -253,7 +255,7 @@ module _ (config : Config) (sent : List Message) (next : ℕ) (found : Bool) whe
   up_question a b (event.Outcome node text) given after asks alike gives =
       same_question a b (λ uploads. OutcomeGives uploads text) given after alike gives
 
-  down_question : (old seat : Seat) (e : Event) (given : EventResult) (after : Seat) → is_question e ≡ true → DownGives found seat e given after → DownGives found old e given old
+  down_question : (old seat : UpOrDown) (e : Event) (given : EventResult) (after : UpOrDown) → is_query e ≡ true → DownGives found seat e given after → DownGives found old e given old
   down_question old seat (event.Put node text) given after asks gives = absurd (false_is_true asks)
   down_question old seat (event.Tick node left) given after asks gives = absurd (false_is_true asks)
   down_question old seat (event.Deliver node number) given after asks gives = absurd (false_is_true asks)
@@ -264,8 +266,8 @@ module _ (config : Config) (sent : List Message) (next : ℕ) (found : Bool) whe
   down_question old seat (event.Info node table) given after asks gives = (gives.0, refl)
   down_question old seat (event.Outcome node text) given after asks gives = (gives.0, refl)
 
-  pub question_again : (old seat : Seat) (e : Event) (given : EventResult) (after : Seat) → is_question e ≡ true → Alike old seat → SeatGives config sent next found seat e given after
-      → SeatGives config sent next found old e given old
+  pub question_again : (old seat : UpOrDown) (e : Event) (given : EventResult) (after : UpOrDown) → is_query e ≡ true → Alike old seat → NodeGives config sent next found seat e given after
+      → NodeGives config sent next found old e given old
   question_again (IsUp a) (IsUp b) e given after asks alike gives = up_question a b e given after asks alike gives
   question_again (IsUp a) (IsDown records due) e given after asks alike gives = absurd alike
   question_again (IsDown records due) (IsUp b) e given after asks alike gives = absurd alike

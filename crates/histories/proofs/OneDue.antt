@@ -5,11 +5,11 @@ use Rattle.ballots.specs.declared.message.Message.{Message}
 use Rattle.ballots.specs.declared.message.Body.{Body}
 use Rattle.ballots.specs.declared.message.Body.TheVariants as body
 use Rattle.ballots.specs.Message.{value_bytes}
-use Rattle.learner.specs.Calls.{Call as LearnerCall}
+use Rattle.learner.specs.Calls.{LearnerCall}
 use Rattle.table_types.specs.Uploads.{Upload, upload_text}
 use Rattle.table_types.specs.Valid.{IsUpload}
 use Rattle.table_types.specs.Tables.{outcome_of, unknown}
-use Rattle.agreement_rules.specs.Views.{Config, Views, with_waiting, HasPrefix}
+use Rattle.agreement_rules.specs.Views.{AgreementConfig, Views, with_waiting, HasPrefix}
 use Rattle.agreement_rules.specs.Due.{Plan, Due, Refuses, Plans, SlotsSpent, OutOfRange, quietly, also_learns, IsMessageOf, has_seen, TickIsDue, PartIsDue}
 use Rattle.agreement_rules.specs.Due as due
 use Rattle.histories.specs.Texts.{IsTextOf, AreUploadsIn, AreUploadsOf, HasUploads}
@@ -18,8 +18,8 @@ use Rattle.histories.specs.Due.{Input, Put, Tick, Deliver, Waits, IsKnown, IsUnk
 -- the laws of lower crates that are used
 pub record OneDueLaws : Type 0 where
   pub prefix : (members : ℕ) (calls : List LearnerCall) (xs ys : List Value) → HasPrefix members calls xs → HasPrefix members calls ys → xs ≡ ys
-  pub tick : (config : Config) (me : ℕ) (views : Views) (left : ℕ) (a b : Due) → TickIsDue config me views left a → TickIsDue config me views left b → a ≡ b
-  pub part : (config : Config) (me : ℕ) (views : Views) (sender slot : ℕ) (said : Body) (a b : Plan) → PartIsDue config me views sender slot said a
+  pub tick : (config : AgreementConfig) (me : ℕ) (views : Views) (left : ℕ) (a b : Due) → TickIsDue config me views left a → TickIsDue config me views left b → a ≡ b
+  pub part : (config : AgreementConfig) (me : ℕ) (views : Views) (sender slot : ℕ) (said : Body) (a b : Plan) → PartIsDue config me views sender slot said a
       → PartIsDue config me views sender slot said b → a ≡ b
   pub uploads : (texts : List (List ℕ)) (xs ys : List Upload) → AreUploadsOf texts xs → AreUploadsOf texts ys → xs ≡ ys
   pub encoding : (x y : Upload) → IsUpload x → IsUpload y → upload_text x ≡ upload_text y → x ≡ y
@@ -35,17 +35,17 @@ module _ (laws : OneDueLaws) where
 
   -- ---- a put
 
-  known_apart : (config : Config) (calls : List LearnerCall) (text : List ℕ) → IsKnown config calls text → IsUnknown config calls text → ⊥
+  known_apart : (config : AgreementConfig) (calls : List LearnerCall) (text : List ℕ) → IsKnown config calls text → IsUnknown config calls text → ⊥
   known_apart config calls text (x, xs, is, has, known) (y, ys, also, have, nothing) =
       known (subst (λ (u : Upload). outcome_of xs u ≡ unknown) (one_upload text y x also is)
       (subst (λ (us : List Upload). outcome_of us y ≡ unknown) (one_list config.members calls ys xs have has) nothing))
 
-  spent_apart : (config : Config) (calls : List LearnerCall) → AreSpent config calls → AreLeft config calls → ⊥
+  spent_apart : (config : AgreementConfig) (calls : List LearnerCall) → AreSpent config calls → AreLeft config calls → ⊥
   spent_apart config calls (xs, has, full) (ys, have, less) =
       let same : length xs ≡ length ys = ap (λ (vs : List Value). length vs) (laws.prefix config.members calls xs ys has have) in
       absurd (omega (arith, full, less, same))
 
-  waiting_apart : (config : Config) (views : Views) (text : List ℕ) → (Waits views text ⊎ IsKnown config views.learner_calls text) → (Waits views text → ⊥)
+  waiting_apart : (config : AgreementConfig) (views : Views) (text : List ℕ) → (Waits views text ⊎ IsKnown config views.learner_calls text) → (Waits views text → ⊥)
       → IsUnknown config views.learner_calls text → ⊥
   waiting_apart config views text (inl waits) not nothing = not waits
   waiting_apart config views text (inr known) not nothing = known_apart config views.learner_calls text known nothing
@@ -56,7 +56,7 @@ module _ (laws : OneDueLaws) where
   plans_alike : (p q x : Plan) → p ≡ x → q ≡ x → (let d : Due = Plans p in d) ≡ Plans q
   plans_alike p q x is also = cc
 
-  one_of_put : (config : Config) (views : Views) (text : List ℕ) (a b : Due) → PutIsDue config views text a → PutIsDue config views text b → a ≡ b
+  one_of_put : (config : AgreementConfig) (views : Views) (text : List ℕ) (a b : Due) → PutIsDue config views text a → PutIsDue config views text b → a ≡ b
   one_of_put config views text (Refuses r) (Refuses s) (is, not, nothing, spent) (also, not', nothing', spent') = refuses_alike r s is also
   one_of_put config views text (Refuses r) (Plans q) (is, not, nothing, spent) (inl (known, also)) = absurd (waiting_apart config views text known not nothing)
   one_of_put config views text (Refuses r) (Plans q) (is, not, nothing, spent) (inr (not', nothing', left, also)) = absurd (spent_apart config views.learner_calls spent left)
@@ -80,13 +80,13 @@ module _ (laws : OneDueLaws) where
       absurd (known (subst (λ (u : Upload). outcome_of uploads u ≡ unknown) (one_upload text y x also is) nothing))
   one_waits uploads (text ∷ texts) l r (inr (x, is, known, rest)) (inr (y, also, known', rest')) = one_waits uploads texts l r rest rest'
 
-  one_learning : (config : Config) (views : Views) (call : LearnerCall) (p q : Plan) → LearnsOf config views call p → LearnsOf config views call q → p ≡ q
+  one_learning : (config : AgreementConfig) (views : Views) (call : LearnerCall) (p q : Plan) → LearnsOf config views call p → LearnsOf config views call q → p ≡ q
   one_learning config views call p q (xs, l, has, waits, is) (ys, r, have, wait, also) =
       let same : ys ≡ xs = one_list config.members (views.learner_calls ++ call ∷ []) ys xs have has in
       let left : l ≡ r = one_waits xs views.waiting l r waits (subst (λ (us : List Upload). AreStillWaiting us views.waiting r) same wait) in
       is ∙ ap (λ (ts : List (List ℕ)). quietly (with_waiting (also_learns views call) ts)) left ∙ sym also
 
-  one_of_body : (config : Config) (me : ℕ) (views : Views) (sender slot : ℕ) (said : Body) (p q : Plan) → BodyIsDue config me views sender slot said p
+  one_of_body : (config : AgreementConfig) (me : ℕ) (views : Views) (sender slot : ℕ) (said : Body) (p q : Plan) → BodyIsDue config me views sender slot said p
       → BodyIsDue config me views sender slot said q → p ≡ q
   one_of_body config me views sender slot (body.Accepted acceptance) p q is also = one_learning config views _ p q is also
   one_of_body config me views sender slot (body.Decided value) p q is also = one_learning config views _ p q is also
@@ -96,7 +96,7 @@ module _ (laws : OneDueLaws) where
   one_of_body config me views sender slot (body.Accept proposal) p q is also = laws.part config me views sender slot (body.Accept proposal) p q is also
   one_of_body config me views sender slot body.Ask p q is also = laws.part config me views sender slot body.Ask p q is also
 
-  one_of_message : (config : Config) (me : ℕ) (views : Views) (m : Message) (a b : Due) → MessageIsDue config me views m a → MessageIsDue config me views m b → a ≡ b
+  one_of_message : (config : AgreementConfig) (me : ℕ) (views : Views) (m : Message) (a b : Due) → MessageIsDue config me views m a → MessageIsDue config me views m b → a ≡ b
   one_of_message config me views m (Refuses r) (Refuses s) (is, not) (also, not') = refuses_range r s is also
     where
       refuses_range : (r s : due.Refusal) → r ≡ OutOfRange → s ≡ OutOfRange → (let d : Due = Refuses r in d) ≡ Refuses s
@@ -108,7 +108,7 @@ module _ (laws : OneDueLaws) where
 
   -- ---- any input
 
-  pub one_due : (config : Config) (me : ℕ) (views : Views) (asked : Input) (a b : Due) → IsDue config me views asked a → IsDue config me views asked b → a ≡ b
+  pub one_due : (config : AgreementConfig) (me : ℕ) (views : Views) (asked : Input) (a b : Due) → IsDue config me views asked a → IsDue config me views asked b → a ≡ b
   one_due config me views (Put text) a b is also = one_of_put config views text a b is also
   one_due config me views (Tick left) a b is also = laws.tick config me views left a b is also
   one_due config me views (Deliver m) a b is also = one_of_message config me views m a b is also

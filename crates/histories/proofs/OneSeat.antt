@@ -6,7 +6,7 @@ use Rattle.ballots.specs.declared.record.Record.{Record}
 use Rattle.table_types.specs.Uploads.{Upload}
 use Rattle.table_types.specs.Tables.{Version, version_of, outcome_of}
 use Rattle.table_types.specs.Answers.{answer_of}
-use Rattle.agreement_rules.specs.Views.{Config, Views}
+use Rattle.agreement_rules.specs.Views.{AgreementConfig, Views}
 use Rattle.agreement_rules.specs.Due.{Plan, Due, Refuses, Plans, TickKeeps, MessageKeeps}
 use Rattle.agreement_rules.specs.Keeping.{record_of}
 use Rattle.histories.specs.Due.{Input, IsDue, InputKeeps}
@@ -15,8 +15,8 @@ use Rattle.histories.specs.Event.{Event}
 use Rattle.histories.specs.Event as event
 use Rattle.histories.specs.EventResult.{EventResult}
 use Rattle.histories.specs.EventResult as results
-use Rattle.histories.specs.Following.{Seat, IsUp, IsDown, PutGives, SendsGives, InputGives, CutGives, Delivers, OutcomeGives, GetGivesIfAble, InfoGivesIfAble, QuestionGives, RestartGives, UpGives, DownGives, SeatGives}
-use Rattle.histories.specs.Owning.{Entry, number_in, is_turned_away, handed_in, Leads}
+use Rattle.histories.specs.Following.{UpOrDown, IsUp, IsDown, PutGives, SendsGives, InputGives, CutGives, Delivers, OutcomeGives, GetGivesIfAble, InfoGivesIfAble, QueryGives, RestartGives, UpGives, DownGives, NodeGives}
+use Rattle.histories.specs.Owning.{OwnEntry, number_in, is_turned_away, handed_in, Leads}
 use Rattle.histories.specs.Keeping.{is_recovered, IsDueAtCut, if_recovered, AreKept}
 use Rattle.histories.proofs.Own.{false_is_true, not_away, of_input, handed_there}
 use Rattle.histories.proofs.OneDue.{OneDueLaws, one_upload, one_list, one_due}
@@ -24,8 +24,8 @@ use Rattle.histories.proofs.OneDue.{OneDueLaws, one_upload, one_list, one_due}
 -- the laws of lower crates that are used
 pub record OneSeatLaws : Type 0 where
   pub due : OneDueLaws
-  pub tick_record : (config : Config) (me : ℕ) (views : Views) (left : ℕ) (a b : Option Record) → TickKeeps config me views left a → TickKeeps config me views left b → a ≡ b
-  pub message_record : (config : Config) (views : Views) (m : Message) (a b : Option Record) → MessageKeeps config views m a → MessageKeeps config views m b → a ≡ b
+  pub tick_record : (config : AgreementConfig) (me : ℕ) (views : Views) (left : ℕ) (a b : Option Record) → TickKeeps config me views left a → TickKeeps config me views left b → a ≡ b
+  pub message_record : (config : AgreementConfig) (views : Views) (m : Message) (a b : Option Record) → MessageKeeps config views m a → MessageKeeps config views m b → a ≡ b
 
 abbrev is_refused : EventResult → Bool
 is_refused (results.Sent first count) = false
@@ -55,59 +55,59 @@ some_or_none o a is none = let both : Some a ≡ None = sym is ∙ none in cc
 
 -- ---- how what is due leaves a node
 
-abbrev left_by : Views → Due → Seat
+abbrev left_by : Views → Due → UpOrDown
 left_by views (Refuses refusal) = IsUp views
 left_by views (Plans plan) = IsUp plan.after
 
-put_leaves : (views : Views) (d : Due) (given : EventResult) (new : Seat) → PutGives views d given new → new ≡ left_by views d
+put_leaves : (views : Views) (d : Due) (given : EventResult) (new : UpOrDown) → PutGives views d given new → new ≡ left_by views d
 put_leaves views (Refuses refusal) given new (is, same) = same
 put_leaves views (Plans plan) given new (is, same) = same
 
-put_plans : (views : Views) (plan : Plan) (given : EventResult) (new : Seat) → PutGives views (Plans plan) given new → is_refused given ≡ false
+put_plans : (views : Views) (plan : Plan) (given : EventResult) (new : UpOrDown) → PutGives views (Plans plan) given new → is_refused given ≡ false
 put_plans views plan given new (is, same) = not_refused given results.Done is refl
 
-put_gives : (views : Views) (d : Due) (x y : EventResult) (new other : Seat) → PutGives views d x new → PutGives views d y other → x ≡ y
+put_gives : (views : Views) (d : Due) (x y : EventResult) (new other : UpOrDown) → PutGives views d x new → PutGives views d y other → x ≡ y
 put_gives views (Refuses refusal) x y new other (is, same) (also, same') = is ∙ sym also
 put_gives views (Plans plan) x y new other (is, same) (also, same') = is ∙ sym also
 
-send_leaves : (sent : List Message) (next : ℕ) (views : Views) (d : Due) (given : EventResult) (new : Seat) → SendsGives sent next views d given new → new ≡ left_by views d
+send_leaves : (sent : List Message) (next : ℕ) (views : Views) (d : Due) (given : EventResult) (new : UpOrDown) → SendsGives sent next views d given new → new ≡ left_by views d
 send_leaves sent next views (Refuses refusal) given new (is, same) = same
 send_leaves sent next views (Plans plan) given new (is, placed, same) = same
 
-send_plans : (sent : List Message) (next : ℕ) (views : Views) (plan : Plan) (given : EventResult) (new : Seat) → SendsGives sent next views (Plans plan) given new
+send_plans : (sent : List Message) (next : ℕ) (views : Views) (plan : Plan) (given : EventResult) (new : UpOrDown) → SendsGives sent next views (Plans plan) given new
     → is_refused given ≡ false
 send_plans sent next views plan given new (is, placed, same) = not_refused given (results.Sent next (length plan.sends)) is refl
 
-send_gives : (sent : List Message) (next : ℕ) (views : Views) (d : Due) (x y : EventResult) (new other : Seat) → SendsGives sent next views d x new → SendsGives sent next views d y other
+send_gives : (sent : List Message) (next : ℕ) (views : Views) (d : Due) (x y : EventResult) (new other : UpOrDown) → SendsGives sent next views d x new → SendsGives sent next views d y other
     → x ≡ y
 send_gives sent next views (Refuses refusal) x y new other (is, same) (also, same') = is ∙ sym also
 send_gives sent next views (Plans plan) x y new other (is, placed, same) (also, placed', same') = is ∙ sym also
 
 module _ (laws : OneSeatLaws) where
-  one_record : (config : Config) (me : ℕ) (views : Views) (asked : Input) (a b : Option Record) → InputKeeps config me views asked a → InputKeeps config me views asked b → a ≡ b
+  one_record : (config : AgreementConfig) (me : ℕ) (views : Views) (asked : Input) (a b : Option Record) → InputKeeps config me views asked a → InputKeeps config me views asked b → a ≡ b
   one_record config me views (input.Put text) a b is also = is ∙ sym also
   one_record config me views (input.Tick left) a b is also = laws.tick_record config me views left a b is also
   one_record config me views (input.Deliver m) a b is also = laws.message_record config views m a b is also
 
   -- an input, whose answers are told in two histories
-  module _ (config : Config) (node : ℕ) (views : Views) (asked : Input) (First Second : Due → EventResult → Seat → Type 0) (first : (d : Due) (given : EventResult) (new : Seat) → First d given new → new ≡ left_by views d) (second : (d : Due) (given : EventResult) (new : Seat) → Second d given new → new ≡ left_by views d) (plans : (plan : Plan) (given : EventResult) (new : Seat) → First (Plans plan) given new → is_refused given ≡ false) (also_plans : (plan : Plan) (given : EventResult) (new : Seat) → Second (Plans plan) given new → is_refused given ≡ false) where
-    first_wants : (d : Due) (given : EventResult) (new : Seat) → First d given new → given ≡ wants_memory → new ≡ IsUp views
+  module _ (config : AgreementConfig) (node : ℕ) (views : Views) (asked : Input) (First Second : Due → EventResult → UpOrDown → Type 0) (first : (d : Due) (given : EventResult) (new : UpOrDown) → First d given new → new ≡ left_by views d) (second : (d : Due) (given : EventResult) (new : UpOrDown) → Second d given new → new ≡ left_by views d) (plans : (plan : Plan) (given : EventResult) (new : UpOrDown) → First (Plans plan) given new → is_refused given ≡ false) (also_plans : (plan : Plan) (given : EventResult) (new : UpOrDown) → Second (Plans plan) given new → is_refused given ≡ false) where
+    first_wants : (d : Due) (given : EventResult) (new : UpOrDown) → First d given new → given ≡ wants_memory → new ≡ IsUp views
     first_wants (Refuses refusal) given new gives wants = first (Refuses refusal) given new gives
     first_wants (Plans plan) given new gives wants = absurd (apart given (plans plan given new gives) wants)
 
-    second_wants : (d : Due) (given : EventResult) (new : Seat) → Second d given new → given ≡ wants_memory → new ≡ IsUp views
+    second_wants : (d : Due) (given : EventResult) (new : UpOrDown) → Second d given new → given ≡ wants_memory → new ≡ IsUp views
     second_wants (Refuses refusal) given new gives wants = second (Refuses refusal) given new gives
     second_wants (Plans plan) given new gives wants = absurd (apart given (also_plans plan given new gives) wants)
 
-    input_leaves : (given : EventResult) (new other : Seat) → InputGives config node views asked First given new → InputGives config node views asked Second given other → new ≡ other
+    input_leaves : (given : EventResult) (new other : UpOrDown) → InputGives config node views asked First given new → InputGives config node views asked Second given other → new ≡ other
     input_leaves given new other (inl (d, is, gives)) (inl (d', is', gives')) =
         first d given new gives ∙ ap (left_by views) (one_due laws.due config node views asked d d' is is') ∙ sym (second d' given other gives')
     input_leaves given new other (inl (d, is, gives)) (inr (allowed, (wants, same))) = first_wants d given new gives wants ∙ sym same
     input_leaves given new other (inr (allowed, (wants, same))) (inl (d, is, gives)) = same ∙ sym (second_wants d given other gives wants)
     input_leaves given new other (inr (allowed, (wants, same))) (inr (allowed', (wants', same'))) = same ∙ sym same'
 
-  module _ (config : Config) (node : ℕ) (views : Views) (asked : Input) (Gives : Due → EventResult → Seat → Type 0) (gives_one : (d : Due) (x y : EventResult) (new other : Seat) → Gives d x new → Gives d y other → x ≡ y) where
-    input_gives : (x y : EventResult) (new other : Seat) → x ≢ wants_memory → y ≢ wants_memory → InputGives config node views asked Gives x new → InputGives config node views asked Gives y other → x ≡ y
+  module _ (config : AgreementConfig) (node : ℕ) (views : Views) (asked : Input) (Gives : Due → EventResult → UpOrDown → Type 0) (gives_one : (d : Due) (x y : EventResult) (new other : UpOrDown) → Gives d x new → Gives d y other → x ≡ y) where
+    input_gives : (x y : EventResult) (new other : UpOrDown) → x ≢ wants_memory → y ≢ wants_memory → InputGives config node views asked Gives x new → InputGives config node views asked Gives y other → x ≡ y
     input_gives x y new other able also_able (inl (d, is, gives)) (inl (d', is', gives')) =
         gives_one d x y new other gives (subst (λ (e : Due). Gives e y other) (one_due laws.due config node views asked d' d is' is) gives')
     input_gives x y new other able also_able (inl (d, is, gives)) (inr (allowed, (wants, same))) = absurd (also_able wants)
@@ -115,14 +115,14 @@ module _ (laws : OneSeatLaws) where
 
   -- ---- how a step leaves a node
 
-  module _ (config : Config) (sent sent' : List Message) (next next' : ℕ) (found : Bool) where
-    tick_leaves : (node : ℕ) (views : Views) (asked : Input) (given : EventResult) (new other : Seat) → InputGives config node views asked (SendsGives sent next views) given new
+  module _ (config : AgreementConfig) (sent sent' : List Message) (next next' : ℕ) (found : Bool) where
+    tick_leaves : (node : ℕ) (views : Views) (asked : Input) (given : EventResult) (new other : UpOrDown) → InputGives config node views asked (SendsGives sent next views) given new
         → InputGives config node views asked (SendsGives sent' next' views) given other → new ≡ other
     tick_leaves node views asked given new other gives gives' =
         input_leaves config node views asked (SendsGives sent next views) (SendsGives sent' next' views) (send_leaves sent next views) (send_leaves sent' next' views)
         (send_plans sent next views) (send_plans sent' next' views) given new other gives gives'
 
-    cut_leaves : (node : ℕ) (views : Views) (asked : Input) (given : EventResult) (new other : Seat) → CutGives config node views asked given new → CutGives config node views asked given other
+    cut_leaves : (node : ℕ) (views : Views) (asked : Input) (given : EventResult) (new other : UpOrDown) → CutGives config node views asked given new → CutGives config node views asked given other
         → new ≡ other
     cut_leaves node views asked given new other (is, (kept, keeps, same)) (also, (kept', keeps', same')) =
         same ∙ ap (IsDown views.records) (one_record config node views asked kept kept' keeps keeps') ∙ sym same'
@@ -133,7 +133,7 @@ module _ (laws : OneSeatLaws) where
         same_some (handed_in sent' (record { event = e; result = given })) m m' (sym alike ∙ handed_there sent e given number m taken is there)
         (handed_there sent' e given number m' taken is there')
 
-    delivery_leaves : (node number : ℕ) (views : Views) (given : EventResult) (new other : Seat)
+    delivery_leaves : (node number : ℕ) (views : Views) (given : EventResult) (new other : UpOrDown)
         → handed_in sent (record { event = event.Deliver node number; result = given }) ≡ handed_in sent' (record { event = event.Deliver node number; result = given })
         → Delivers sent next number (λ m. InputGives config node views (input.Deliver m) (SendsGives sent next views)) views given new
         → Delivers sent' next' number (λ m. InputGives config node views (input.Deliver m) (SendsGives sent' next' views)) views given other → new ≡ other
@@ -148,7 +148,7 @@ module _ (laws : OneSeatLaws) where
         absurd (false_is_true (sym (not_away sent' next' given (of_input config sent' next' node views (input.Deliver m) given other gives)) ∙ ap is_turned_away is))
     delivery_leaves node number views given new other alike (inr (late, is, same)) (inr (late', is', same')) = same ∙ sym same'
 
-    cut_delivery_leaves : (node number : ℕ) (views : Views) (given : EventResult) (new other : Seat)
+    cut_delivery_leaves : (node number : ℕ) (views : Views) (given : EventResult) (new other : UpOrDown)
         → handed_in sent (record { event = event.DeliverCut node number; result = given }) ≡ handed_in sent' (record { event = event.DeliverCut node number; result = given })
         → Delivers sent next number (λ m. CutGives config node views (input.Deliver m)) views given new
         → Delivers sent' next' number (λ m. CutGives config node views (input.Deliver m)) views given other → new ≡ other
@@ -162,13 +162,13 @@ module _ (laws : OneSeatLaws) where
         absurd (false_is_true (sym (ap is_turned_away gives.0) ∙ ap is_turned_away is))
     cut_delivery_leaves node number views given new other alike (inr (late, is, same)) (inr (late', is', same')) = same ∙ sym same'
 
-    restart_leaves : (old : Seat) (given : EventResult) (new other : Seat) → RestartGives found old given new → RestartGives found old given other → new ≡ other
+    restart_leaves : (old : UpOrDown) (given : EventResult) (new other : UpOrDown) → RestartGives found old given new → RestartGives found old given other → new ≡ other
     restart_leaves old given new other (inl (is, same)) (inl (is', same')) = same ∙ sym same'
     restart_leaves old given new other (inl (is, same)) (inr (wants, same')) = absurd (apart given (not_refused given results.Done is refl) wants)
     restart_leaves old given new other (inr (wants, same)) (inl (is, same')) = absurd (apart given (not_refused given results.Done is refl) wants)
     restart_leaves old given new other (inr (wants, same)) (inr (wants', same')) = same ∙ sym same'
 
-    up_leaves : (views : Views) (e : Event) (given : EventResult) (new other : Seat)
+    up_leaves : (views : Views) (e : Event) (given : EventResult) (new other : UpOrDown)
         → handed_in sent (record { event = e; result = given }) ≡ handed_in sent' (record { event = e; result = given }) → UpGives config sent next found views e given new
         → UpGives config sent' next' found views e given other → new ≡ other
     up_leaves views (event.Put node text) given new other alike gives gives' =
@@ -182,7 +182,7 @@ module _ (laws : OneSeatLaws) where
     up_leaves views (event.Info node table) given new other alike (uploads, has, is, same) (uploads', has', is', same') = same ∙ sym same'
     up_leaves views (event.Outcome node text) given new other alike (uploads, has, is, same) (uploads', has', is', same') = same ∙ sym same'
 
-    down_leaves : (old : Seat) (e : Event) (given : EventResult) (new other : Seat) → DownGives found old e given new → DownGives found old e given other → new ≡ other
+    down_leaves : (old : UpOrDown) (e : Event) (given : EventResult) (new other : UpOrDown) → DownGives found old e given new → DownGives found old e given other → new ≡ other
     down_leaves old (event.Put node text) given new other gives gives' = gives.1 ∙ sym gives'.1
     down_leaves old (event.Tick node left) given new other gives gives' = gives.1 ∙ sym gives'.1
     down_leaves old (event.Deliver node number) given new other gives gives' = gives.1 ∙ sym gives'.1
@@ -193,24 +193,24 @@ module _ (laws : OneSeatLaws) where
     down_leaves old (event.Info node table) given new other gives gives' = gives.1 ∙ sym gives'.1
     down_leaves old (event.Outcome node text) given new other gives gives' = gives.1 ∙ sym gives'.1
 
-    seat_leaves : (old : Seat) (e : Event) (given : EventResult) (new other : Seat)
-        → handed_in sent (record { event = e; result = given }) ≡ handed_in sent' (record { event = e; result = given }) → SeatGives config sent next found old e given new
-        → SeatGives config sent' next' found old e given other → new ≡ other
+    seat_leaves : (old : UpOrDown) (e : Event) (given : EventResult) (new other : UpOrDown)
+        → handed_in sent (record { event = e; result = given }) ≡ handed_in sent' (record { event = e; result = given }) → NodeGives config sent next found old e given new
+        → NodeGives config sent' next' found old e given other → new ≡ other
     seat_leaves (IsUp views) e given new other alike gives gives' = up_leaves views e given new other alike gives gives'
     seat_leaves (IsDown records due) e given new other alike gives gives' = down_leaves (IsDown records due) e given new other gives gives'
 
-  pub one_left : (config : Config) (sent : List Message) (next : ℕ) (found : Bool) (old : Seat) (e : Event) (given : EventResult) (new other : Seat) → SeatGives config sent next found old e given new
-      → SeatGives config sent next found old e given other → new ≡ other
+  pub one_left : (config : AgreementConfig) (sent : List Message) (next : ℕ) (found : Bool) (old : UpOrDown) (e : Event) (given : EventResult) (new other : UpOrDown) → NodeGives config sent next found old e given new
+      → NodeGives config sent next found old e given other → new ≡ other
   one_left config sent next found old e given new other gives gives' = seat_leaves config sent sent next next found old e given new other refl gives gives'
 
-  pub one_led : (config : Config) (old : Seat) (entry : Entry) (new other : Seat) → Leads config old entry new → Leads config old entry other → new ≡ other
+  pub one_led : (config : AgreementConfig) (old : UpOrDown) (entry : OwnEntry) (new other : UpOrDown) → Leads config old entry new → Leads config old entry other → new ≡ other
   one_led config old entry new other leads also =
       seat_leaves config leads.sent also.sent leads.next also.next entry.recovered old entry.step.event entry.step.result new other (leads.handed_is ∙ sym also.handed_is) leads.gives also.gives
 
   -- ---- what a step gives
 
-  module _ (config : Config) (sent : List Message) (next : ℕ) (found : Bool) where
-    delivery_gives : (node number : ℕ) (views : Views) (x y : EventResult) (new other : Seat) → x ≢ wants_memory → y ≢ wants_memory
+  module _ (config : AgreementConfig) (sent : List Message) (next : ℕ) (found : Bool) where
+    delivery_gives : (node number : ℕ) (views : Views) (x y : EventResult) (new other : UpOrDown) → x ≢ wants_memory → y ≢ wants_memory
         → Delivers sent next number (λ m. InputGives config node views (input.Deliver m) (SendsGives sent next views)) views x new
         → Delivers sent next number (λ m. InputGives config node views (input.Deliver m) (SendsGives sent next views)) views y other → x ≡ y
     delivery_gives node number views x y new other able also_able (inl (m, lt, there, gives)) (inl (m', lt', there', gives')) =
@@ -221,14 +221,14 @@ module _ (laws : OneSeatLaws) where
     delivery_gives node number views x y new other able also_able (inr (late, is, same)) (inl (m, lt, there, gives)) = absurd (omega (arith, lt, late))
     delivery_gives node number views x y new other able also_able (inr (late, is, same)) (inr (late', is', same')) = is ∙ sym is'
 
-    cut_delivery_gives : (node number : ℕ) (views : Views) (x y : EventResult) (new other : Seat) → Delivers sent next number (λ m. CutGives config node views (input.Deliver m)) views x new
+    cut_delivery_gives : (node number : ℕ) (views : Views) (x y : EventResult) (new other : UpOrDown) → Delivers sent next number (λ m. CutGives config node views (input.Deliver m)) views x new
         → Delivers sent next number (λ m. CutGives config node views (input.Deliver m)) views y other → x ≡ y
     cut_delivery_gives node number views x y new other (inl (m, lt, there, gives)) (inl (m', lt', there', gives')) = gives.0 ∙ sym gives'.0
     cut_delivery_gives node number views x y new other (inl (m, lt, there, gives)) (inr (late, is, same)) = absurd (omega (arith, lt, late))
     cut_delivery_gives node number views x y new other (inr (late, is, same)) (inl (m, lt, there, gives)) = absurd (omega (arith, lt, late))
     cut_delivery_gives node number views x y new other (inr (late, is, same)) (inr (late', is', same')) = is ∙ sym is'
 
-    restart_gives : (old : Seat) (x y : EventResult) (new other : Seat) → x ≢ wants_memory → y ≢ wants_memory → RestartGives found old x new → RestartGives found old y other → x ≡ y
+    restart_gives : (old : UpOrDown) (x y : EventResult) (new other : UpOrDown) → x ≢ wants_memory → y ≢ wants_memory → RestartGives found old x new → RestartGives found old y other → x ≡ y
     restart_gives old x y new other able also_able (inl (is, same)) (inl (is', same')) = is ∙ sym is'
     restart_gives old x y new other able also_able (inl (is, same)) (inr (wants, same')) = absurd (also_able wants)
     restart_gives old x y new other able also_able (inr (wants, same)) gives = absurd (able wants)
@@ -255,12 +255,12 @@ module _ (laws : OneSeatLaws) where
     outcome_given uploads text x y (a, is, given) (b, is', given') =
         given ∙ ap (λ (u : Upload). results.Outcome (outcome_of uploads u)) (one_upload laws.due text a b is is') ∙ sym given'
 
-    question_gives : (views : Views) (Gives : List Upload → EventResult → Type 0) (x y : EventResult) (new other : Seat)
-        → ((uploads : List Upload) → Gives uploads x → Gives uploads y → x ≡ y) → QuestionGives config views Gives x new → QuestionGives config views Gives y other → x ≡ y
+    question_gives : (views : Views) (Gives : List Upload → EventResult → Type 0) (x y : EventResult) (new other : UpOrDown)
+        → ((uploads : List Upload) → Gives uploads x → Gives uploads y → x ≡ y) → QueryGives config views Gives x new → QueryGives config views Gives y other → x ≡ y
     question_gives views Gives x y new other one (us, has, gives, same) (vs, has', gives', same') =
         one us gives (subst (λ (l : List Upload). Gives l y) (one_list laws.due config.members views.learner_calls vs us has' has) gives')
 
-    up_gives : (views : Views) (e : Event) (x y : EventResult) (new other : Seat) → x ≢ wants_memory → y ≢ wants_memory → UpGives config sent next found views e x new
+    up_gives : (views : Views) (e : Event) (x y : EventResult) (new other : UpOrDown) → x ≢ wants_memory → y ≢ wants_memory → UpGives config sent next found views e x new
         → UpGives config sent next found views e y other → x ≡ y
     up_gives views (event.Put node text) x y new other able also_able gives gives' =
         input_gives config node views (input.Put text) (PutGives views) (put_gives views) x y new other able also_able gives gives'
@@ -277,7 +277,7 @@ module _ (laws : OneSeatLaws) where
     up_gives views (event.Outcome node text) x y new other able also_able gives gives' =
         question_gives views (λ uploads. OutcomeGives uploads text) x y new other (λ uploads. outcome_given uploads text x y) gives gives'
 
-    down_gives : (old : Seat) (e : Event) (x y : EventResult) (new other : Seat) → x ≢ wants_memory → y ≢ wants_memory → DownGives found old e x new → DownGives found old e y other → x ≡ y
+    down_gives : (old : UpOrDown) (e : Event) (x y : EventResult) (new other : UpOrDown) → x ≢ wants_memory → y ≢ wants_memory → DownGives found old e x new → DownGives found old e y other → x ≡ y
     down_gives old (event.Put node text) x y new other able also_able gives gives' = gives.0 ∙ sym gives'.0
     down_gives old (event.Tick node left) x y new other able also_able gives gives' = gives.0 ∙ sym gives'.0
     down_gives old (event.Deliver node number) x y new other able also_able gives gives' = gives.0 ∙ sym gives'.0
@@ -288,15 +288,15 @@ module _ (laws : OneSeatLaws) where
     down_gives old (event.Info node table) x y new other able also_able gives gives' = gives.0 ∙ sym gives'.0
     down_gives old (event.Outcome node text) x y new other able also_able gives gives' = gives.0 ∙ sym gives'.0
 
-    pub one_given : (old : Seat) (e : Event) (x y : EventResult) (new other : Seat) → x ≢ wants_memory → y ≢ wants_memory → SeatGives config sent next found old e x new
-        → SeatGives config sent next found old e y other → x ≡ y
+    pub one_given : (old : UpOrDown) (e : Event) (x y : EventResult) (new other : UpOrDown) → x ≢ wants_memory → y ≢ wants_memory → NodeGives config sent next found old e x new
+        → NodeGives config sent next found old e y other → x ≡ y
     one_given (IsUp views) e x y new other able also_able gives gives' = up_gives views e x y new other able also_able gives gives'
     one_given (IsDown records due) e x y new other able also_able gives gives' = down_gives (IsDown records due) e x y new other able also_able gives gives'
 
   -- ---- what is kept
 
-  module _ (config : Config) where
-    one_at_cut : (seat : Seat) (e : Event) (handed : Option Message) (a b : Option Record) → IsDueAtCut config seat e handed a → IsDueAtCut config seat e handed b → a ≡ b
+  module _ (config : AgreementConfig) where
+    one_at_cut : (seat : UpOrDown) (e : Event) (handed : Option Message) (a b : Option Record) → IsDueAtCut config seat e handed a → IsDueAtCut config seat e handed b → a ≡ b
     one_at_cut (IsDown records due) e handed a b is also = is ∙ sym also
     one_at_cut (IsUp views) (event.TickCut node left) handed a b is also = laws.tick_record config node views left a b is also
     one_at_cut (IsUp views) (event.DeliverCut node number) None a b is also = is ∙ sym also
@@ -309,10 +309,10 @@ module _ (laws : OneSeatLaws) where
     one_at_cut (IsUp views) (event.Info node table) handed a b is also = is ∙ sym also
     one_at_cut (IsUp views) (event.Outcome node text) handed a b is also = is ∙ sym also
 
-    pub one_kept : (seat : Seat) (entries : List Entry) (a b : List Record) → AreKept config seat entries a → AreKept config seat entries b → a ≡ b
+    pub one_kept : (seat : UpOrDown) (entries : List OwnEntry) (a b : List Record) → AreKept config seat entries a → AreKept config seat entries b → a ≡ b
     one_kept seat [] a b is also = is ∙ sym also
     one_kept seat (entry ∷ entries) a b (after, due, more, leads, cut, rest, is) (after', due', more', leads', cut', rest', also) =
         let seats : after' ≡ after = one_led config seat entry after' after leads' leads in
         let dues : due ≡ due' = one_at_cut seat entry.step.event entry.handed due due' cut cut' in
-        let mores : more ≡ more' = one_kept after entries more more' rest (subst (λ (s : Seat). AreKept config s entries more') seats rest') in
+        let mores : more ≡ more' = one_kept after entries more more' rest (subst (λ (s : UpOrDown). AreKept config s entries more') seats rest') in
         is ∙ ap₂ (λ (d : Option Record) (l : List Record). filter_map record_of entry.sends ++ (if_recovered (is_recovered entries) d ++ l)) dues mores ∙ sym also

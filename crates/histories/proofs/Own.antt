@@ -3,7 +3,7 @@ use Rattle.std.proofs.Common.{◌≡◌, ℕ, ◌+◌, ◌<◌, ◌⊎◌, inl, 
 use Rattle.std.specs.Option.{option_and_then}
 use Rattle.std.proofs.lemmas.Bool.{cases_eq, eqb-true, eqb-false}
 use Rattle.ballots.specs.declared.message.Message.{Message}
-use Rattle.agreement_rules.specs.Views.{Config, Views}
+use Rattle.agreement_rules.specs.Views.{AgreementConfig, Views}
 use Rattle.agreement_rules.specs.Due.{Due, Refuses, Plans}
 use Rattle.histories.specs.Due.{Input, IsDue}
 use Rattle.agreement_rules.specs.Due as due
@@ -13,8 +13,8 @@ use Rattle.histories.specs.Event as event
 use Rattle.histories.specs.EventResult.{EventResult, Reason, count_of}
 use Rattle.histories.specs.EventResult as results
 use Rattle.histories.specs.History.{Step}
-use Rattle.histories.specs.Following.{Seat, IsUp, IsDown, reason_of, SendsGives, InputGives, RestartGives, UpGives, RefusesAsDown, DownGives, SeatGives, IsAsked, StepFollows, StepsReach}
-use Rattle.histories.specs.Owning.{Entry, is_question, concerns, number_in, is_turned_away, handed_in, sends_in, entry_of, entries_of, own, OwnReaches}
+use Rattle.histories.specs.Following.{UpOrDown, IsUp, IsDown, reason_of, SendsGives, InputGives, RestartGives, UpGives, RefusesAsDown, DownGives, NodeGives, IsAsked, StepFollows, StepsReach}
+use Rattle.histories.specs.Owning.{OwnEntry, is_query, concerns, number_in, is_turned_away, handed_in, sends_in, entry_of, entries_of, own, OwnReaches}
 use Rattle.histories.proofs.Reached.{get_with_more, taken_with_more}
 
 -- ---- what is given to a node that is up
@@ -47,12 +47,12 @@ pub data Goes (sent : List Message) (next : ℕ) (given : EventResult) : Type 0 
   out : (ms : List Message) → given ≡ results.Sent next (length ms) → take (length ms) (drop next sent) ≡ ms → Goes sent next given
   nothing : Rests given → Goes sent next given
 
-module _ (config : Config) (sent : List Message) (next : ℕ) where
-  of_step : (views : Views) (due : Due) (given : EventResult) (new : Seat) → SendsGives sent next views due given new → Goes sent next given
+module _ (config : AgreementConfig) (sent : List Message) (next : ℕ) where
+  of_step : (views : Views) (due : Due) (given : EventResult) (new : UpOrDown) → SendsGives sent next views due given new → Goes sent next given
   of_step views (Refuses refusal) given new (is, same) = nothing (rests_by given (results.Refused (reason_of refusal)) is (never_away refusal))
   of_step views (Plans plan) given new (is, placed, same) = out plan.sends is placed
 
-  pub of_input : (node : ℕ) (views : Views) (asked : Input) (given : EventResult) (new : Seat) → InputGives config node views asked (SendsGives sent next views) given new → Goes sent next given
+  pub of_input : (node : ℕ) (views : Views) (asked : Input) (given : EventResult) (new : UpOrDown) → InputGives config node views asked (SendsGives sent next views) given new → Goes sent next given
   of_input node views asked given new (inl (due, is_due, gives)) = of_step views due given new gives
   of_input node views asked given new (inr (allowed, (is, same))) = nothing (rests_by given (results.Refused results.OutOfMemory) is (λ s. refl, refl, refl))
 
@@ -96,7 +96,7 @@ record Stays (sent more : List Message) (e : Event) (given : EventResult) : Type
   handed : handed_in (sent ++ more) (record { event = e; result = given }) ≡ handed_in sent (record { event = e; result = given })
   sends : sends_in (sent ++ more) given ≡ sends_in sent given
 
-module _ (config : Config) (sent more : List Message) (next : ℕ) where
+module _ (config : AgreementConfig) (sent more : List Message) (next : ℕ) where
   hands_nothing : (e : Event) (given : EventResult) → number_in e ≡ None → sends_in (sent ++ more) given ≡ sends_in sent given → Stays sent more e given
   hands_nothing e given is sends = record {
     handed = handed_nothing (sent ++ more) e given (is_turned_away given) is ∙ sym (handed_nothing sent e given (is_turned_away given) is);
@@ -116,7 +116,7 @@ module _ (config : Config) (sent more : List Message) (next : ℕ) where
     sends = sends;
   }
 
-  up_stays : (found : Bool) (views : Views) (e : Event) (given : EventResult) (new : Seat) → is_question e ≡ false → UpGives config sent next found views e given new → Stays sent more e given
+  up_stays : (found : Bool) (views : Views) (e : Event) (given : EventResult) (new : UpOrDown) → is_query e ≡ false → UpGives config sent next found views e given new → Stays sent more e given
   up_stays found views (event.Put node text) given new changes (inl (Refuses refusal, is_due, (is, same))) =
       hands_nothing (event.Put node text) given refl (sends_rest sent more given (results.Refused (reason_of refusal)) is (λ s. refl))
   up_stays found views (event.Put node text) given new changes (inl (Plans plan, is_due, (is, same))) =
@@ -144,16 +144,16 @@ module _ (config : Config) (sent more : List Message) (next : ℕ) where
   up_stays found views (event.Info node table) given new changes gives = absurd (false_is_true (sym changes))
   up_stays found views (event.Outcome node text) given new changes gives = absurd (false_is_true (sym changes))
 
-  down_stays : (e : Event) (given : EventResult) (old new : Seat) → RefusesAsDown old given new → Stays sent more e given
+  down_stays : (e : Event) (given : EventResult) (old new : UpOrDown) → RefusesAsDown old given new → Stays sent more e given
   down_stays e given old new (is, same) = is_away e given (results.Refused results.Down) is refl (λ s. refl)
 
-  restarts_stay : (node : ℕ) (found : Bool) (old : Seat) (given : EventResult) (new : Seat) → RestartGives found old given new → Stays sent more (event.Restart node) given
+  restarts_stay : (node : ℕ) (found : Bool) (old : UpOrDown) (given : EventResult) (new : UpOrDown) → RestartGives found old given new → Stays sent more (event.Restart node) given
   restarts_stay node found old given new (inl (is, same)) =
       hands_nothing (event.Restart node) given refl (sends_rest sent more given results.Done is (λ s. refl))
   restarts_stay node found old given new (inr (is, same)) =
       hands_nothing (event.Restart node) given refl (sends_rest sent more given (results.Refused results.OutOfMemory) is (λ s. refl))
 
-  seat_stays : (found : Bool) (old : Seat) (e : Event) (given : EventResult) (new : Seat) → is_question e ≡ false → SeatGives config sent next found old e given new → Stays sent more e given
+  seat_stays : (found : Bool) (old : UpOrDown) (e : Event) (given : EventResult) (new : UpOrDown) → is_query e ≡ false → NodeGives config sent next found old e given new → Stays sent more e given
   seat_stays found (IsUp views) e given new changes gives = up_stays found views e given new changes gives
   seat_stays found (IsDown records due) (event.Put node text) given new changes gives = down_stays (event.Put node text) given (IsDown records due) new gives
   seat_stays found (IsDown records due) (event.Tick node left) given new changes gives = down_stays (event.Tick node left) given (IsDown records due) new gives
@@ -165,7 +165,7 @@ module _ (config : Config) (sent more : List Message) (next : ℕ) where
   seat_stays found (IsDown records due) (event.Info node table) given new changes gives = down_stays (event.Info node table) given (IsDown records due) new gives
   seat_stays found (IsDown records due) (event.Outcome node text) given new changes gives = down_stays (event.Outcome node text) given (IsDown records due) new gives
 
-  pub entry_stays : (found : Bool) (old : Seat) (step : Step) (new : Seat) → is_question step.event ≡ false → SeatGives config sent next found old step.event step.result new
+  pub entry_stays : (found : Bool) (old : UpOrDown) (step : Step) (new : UpOrDown) → is_query step.event ≡ false → NodeGives config sent next found old step.event step.result new
       → entry_of (sent ++ more) step found ≡ entry_of sent step found
   entry_stays found old step new changes gives =
       let stays = seat_stays found old step.event step.result new changes gives in
@@ -185,19 +185,19 @@ either true true is = inr refl
 either true false is = absurd (false_is_true (sym is))
 
 pub concerned_node : (node : ℕ) (e : Event) → concerns node e ≡ true → node_of e ≡ node
-concerned_node node e is = eqb-true (node_of e) node (both (node_of e == node) (is_question e) is).0
+concerned_node node e is = eqb-true (node_of e) node (both (node_of e == node) (is_query e) is).0
 
-pub concerned_changes : (node : ℕ) (e : Event) → concerns node e ≡ true → is_question e ≡ false
-concerned_changes node e is = (both (node_of e == node) (is_question e) is).1
+pub concerned_changes : (node : ℕ) (e : Event) → concerns node e ≡ true → is_query e ≡ false
+concerned_changes node e is = (both (node_of e == node) (is_query e) is).1
 
-pub unconcerned_asks : (node : ℕ) (e : Event) → concerns node e ≡ false → node ≡ node_of e → is_question e ≡ true
-unconcerned_asks node e is same = elim (either (node_of e == node) (is_question e) is) as (λ _. is_question e ≡ true) [
+pub unconcerned_asks : (node : ℕ) (e : Event) → concerns node e ≡ false → node ≡ node_of e → is_query e ≡ true
+unconcerned_asks node e is same = elim (either (node_of e == node) (is_query e) is) as (λ _. is_query e ≡ true) [
   | inl other ↦ absurd (eqb-false (node_of e) node other (sym same))
   | inr asks ↦ asks
 ]
 
-module _ (config : Config) (sent : List Message) (next : ℕ) where
-  up_asks : (found : Bool) (views : Views) (e : Event) (given : EventResult) (new : Seat) → is_question e ≡ true → UpGives config sent next found views e given new → new ≡ IsUp views
+module _ (config : AgreementConfig) (sent : List Message) (next : ℕ) where
+  up_asks : (found : Bool) (views : Views) (e : Event) (given : EventResult) (new : UpOrDown) → is_query e ≡ true → UpGives config sent next found views e given new → new ≡ IsUp views
   up_asks found views (event.Put node text) given new asks gives = absurd (false_is_true asks)
   up_asks found views (event.Tick node left) given new asks gives = absurd (false_is_true asks)
   up_asks found views (event.Deliver node number) given new asks gives = absurd (false_is_true asks)
@@ -208,7 +208,7 @@ module _ (config : Config) (sent : List Message) (next : ℕ) where
   up_asks found views (event.Info node table) given new asks (uploads, has, gives, same) = same
   up_asks found views (event.Outcome node text) given new asks (uploads, has, gives, same) = same
 
-  down_asks : (found : Bool) (old : Seat) (e : Event) (given : EventResult) (new : Seat) → is_question e ≡ true → DownGives found old e given new → new ≡ old
+  down_asks : (found : Bool) (old : UpOrDown) (e : Event) (given : EventResult) (new : UpOrDown) → is_query e ≡ true → DownGives found old e given new → new ≡ old
   down_asks found old (event.Put node text) given new asks gives = absurd (false_is_true asks)
   down_asks found old (event.Tick node left) given new asks gives = absurd (false_is_true asks)
   down_asks found old (event.Deliver node number) given new asks gives = absurd (false_is_true asks)
@@ -219,11 +219,11 @@ module _ (config : Config) (sent : List Message) (next : ℕ) where
   down_asks found old (event.Info node table) given new asks gives = gives.1
   down_asks found old (event.Outcome node text) given new asks gives = gives.1
 
-  seat_asks : (found : Bool) (old : Seat) (e : Event) (given : EventResult) (new : Seat) → is_question e ≡ true → SeatGives config sent next found old e given new → new ≡ old
+  seat_asks : (found : Bool) (old : UpOrDown) (e : Event) (given : EventResult) (new : UpOrDown) → is_query e ≡ true → NodeGives config sent next found old e given new → new ≡ old
   seat_asks found (IsUp views) e given new asks gives = up_asks found views e given new asks gives
   seat_asks found (IsDown records due) e given new asks gives = down_asks found (IsDown records due) e given new asks gives
 
-  module _ (node : ℕ) (member : node < config.members) (seats : ℕ → Seat) (step : Step) (found : Bool) (after : ℕ → Seat) where
+  module _ (node : ℕ) (member : node < config.members) (seats : ℕ → UpOrDown) (step : Step) (found : Bool) (after : ℕ → UpOrDown) where
     pub unconcerned : concerns node step.event ≡ false → StepFollows config sent next seats step found after → after node ≡ seats node
     unconcerned is (inl (one, gives, others)) = elim (cases_eq node (node_of step.event)) as (λ _. after node ≡ seats node) [
       | inl same ↦
@@ -234,15 +234,15 @@ module _ (config : Config) (sent : List Message) (next : ℕ) where
     unconcerned is (inr (outside, is_out, same)) = same node
 
     pub concerned : concerns node step.event ≡ true → StepFollows config sent next seats step found after
-        → SeatGives config sent next found (seats node) step.event step.result (after node)
+        → NodeGives config sent next found (seats node) step.event step.result (after node)
     concerned is (inl (one, gives, others)) =
-        subst (λ (n : ℕ). SeatGives config sent next found (seats n) step.event step.result (after n)) (concerned_node node step.event is) gives
+        subst (λ (n : ℕ). NodeGives config sent next found (seats n) step.event step.result (after n)) (concerned_node node step.event is) gives
     concerned is (inr (outside, is_out, same)) = absurd (omega (arith, member, outside, concerned_node node step.event is))
 
 -- ---- what the entries leave
 
-module _ (config : Config) (sent : List Message) (node : ℕ) (member : node < config.members) where
-  leaves_step : (seats last after : ℕ → Seat) (next : ℕ) (step : Step) (found : Bool) (entries : List Entry) (b : Bool) → concerns node step.event ≡ b
+module _ (config : AgreementConfig) (sent : List Message) (node : ℕ) (member : node < config.members) where
+  leaves_step : (seats last after : ℕ → UpOrDown) (next : ℕ) (step : Step) (found : Bool) (entries : List OwnEntry) (b : Bool) → concerns node step.event ≡ b
       → StepFollows config sent next seats step found after → IsAsked step.event found → OwnReaches config (after node) entries (last node)
       → OwnReaches config (seats node) (if b then entry_of sent step found ∷ entries else entries) (last node)
   leaves_step seats last after next step found entries true is follows asked rest = (
@@ -258,11 +258,11 @@ module _ (config : Config) (sent : List Message) (node : ℕ) (member : node < c
     rest,
   )
   leaves_step seats last after next step found entries false is follows asked rest =
-      subst (λ (x : Seat). OwnReaches config x entries (last node)) (unconcerned config sent next node member seats step found after is follows) rest
+      subst (λ (x : UpOrDown). OwnReaches config x entries (last node)) (unconcerned config sent next node member seats step found after is follows) rest
 
-  pub own_leaves : (steps : List Step) (found : List Bool) (seats last : ℕ → Seat) (next : ℕ) → StepsReach config sent seats next steps found last
+  pub own_leaves : (steps : List Step) (found : List Bool) (seats last : ℕ → UpOrDown) (next : ℕ) → StepsReach config sent seats next steps found last
       → OwnReaches config (seats node) (own node sent steps found) (last node)
-  own_leaves [] found seats last next (none, end, same) = ap (λ (f : ℕ → Seat). f node) same
+  own_leaves [] found seats last next (none, end, same) = ap (λ (f : ℕ → UpOrDown). f node) same
   own_leaves (s ∷ steps) [] seats last next reaches = absurd reaches
   own_leaves (s ∷ steps) (f ∷ found) seats last next (after, one, asked, rest) =
       leaves_step seats last after next s f (own node sent steps found) (concerns node s.event) refl one asked
@@ -270,16 +270,16 @@ module _ (config : Config) (sent : List Message) (node : ℕ) (member : node < c
 
 -- ---- how they grow
 
-module _ (config : Config) (sent more : List Message) (node : ℕ) (member : node < config.members) (step : Step) (was : Bool) where
-  grow_step : (seats after : ℕ → Seat) (next : ℕ) (s : Step) (f : Bool) (new old : List Entry) (b : Bool) → concerns node s.event ≡ b
+module _ (config : AgreementConfig) (sent more : List Message) (node : ℕ) (member : node < config.members) (step : Step) (was : Bool) where
+  grow_step : (seats after : ℕ → UpOrDown) (next : ℕ) (s : Step) (f : Bool) (new old : List OwnEntry) (b : Bool) → concerns node s.event ≡ b
       → StepFollows config sent next seats s f after → new ≡ old ++ entries_of node (sent ++ more) step was
       → (if b then entry_of (sent ++ more) s f ∷ new else new) ≡ (if b then entry_of sent s f ∷ old else old) ++ entries_of node (sent ++ more) step was
   grow_step seats after next s f new old true is follows rest =
-      ap₂ (λ (x : Entry) (xs : List Entry). x ∷ xs)
+      ap₂ (λ (x : OwnEntry) (xs : List OwnEntry). x ∷ xs)
       (entry_stays config sent more next f (seats node) s (after node) (concerned_changes node s.event is) (concerned config sent next node member seats s f after is follows)) rest
   grow_step seats after next s f new old false is follows rest = rest
 
-  pub own_grows : (steps : List Step) (found : List Bool) (seats last : ℕ → Seat) (next : ℕ) → StepsReach config sent seats next steps found last
+  pub own_grows : (steps : List Step) (found : List Bool) (seats last : ℕ → UpOrDown) (next : ℕ) → StepsReach config sent seats next steps found last
       → own node (sent ++ more) (steps ++ step ∷ []) (found ++ was ∷ []) ≡ own node sent steps found ++ entries_of node (sent ++ more) step was
   own_grows [] [] seats last next (none, end, same) = refl
   own_grows [] (f ∷ found) seats last next (none, end, same) = absurd (cc)

@@ -10,11 +10,12 @@ use Rattle.ballots.specs.declared.record.Record.{Record}
 use Rattle.ballots.specs.declared.record.Record.TheVariants.{Began}
 use Rattle.ballots.specs.Acceptance.{acceptance}
 use Rattle.ballots.proofs.CallerLemmas.{majority_stays}
-use Rattle.proposer.specs.Call.{Begun, Promise, Call, Begins, Promises, Nacks}
-use Rattle.proposer.specs.Choosing.{Report as Reported, is_from, is_sender, HasMajority, first_of_each, reports_of, Chooses}
-use Rattle.proposer.specs.Attempting.{IsOpen, ends, is_for, promise_in, answering, LeadsToAccept}
+use Rattle.proposer.specs.Call.{OneSlot, Begun, Promise, ProposerCall, Begins, Promises, Nacks}
+use Rattle.proposer.specs.Choosing.{PromiseReport as Reported, is_from, is_sender, HasMajority, first_of_each, reports_of, Chooses}
+use Rattle.proposer.specs.Reporting.{promise_in}
+use Rattle.proposer.specs.Attempting.{IsOpen, ends, is_for, answering, LeadsToAccept}
 use Rattle.proposer.specs.Promised.{IsAnswerTo}
-use Rattle.learner.specs.Calls.{Call as Told}
+use Rattle.learner.specs.Calls.{LearnerCall as Told}
 use Rattle.lawful_histories.specs.Saying.{Report, IsUpTo, Saying}
 use Rattle.lawful_histories.specs.Saying as say
 use Rattle.lawful_histories.specs.Majorities.{MajorityOf}
@@ -30,11 +31,11 @@ pub record ProposerLaws : Type 0 where
       × ((other : Reported) → Contains reports other → IsBelow ballot other.ballot → ⊥))
   pub reports : (promises : List Promise) (report : Reported) → Contains (reports_of promises) report
       ↔ ((p : Promise) × Contains promises p × (p.report ≡ Some report))
-  pub goes_on : (calls since : List Call) (begun : Begun) (p : Promise)
+  pub goes_on : (calls since : List ProposerCall) (begun : Begun) (p : Promise)
       → IsOpen calls begun since → IsOpen (calls ++ Promises p ∷ []) begun (since ++ Promises p ∷ [])
-  pub attempts : (calls : List Call) (begun another : Begun) (since after : List Call)
+  pub attempts : (calls : List ProposerCall) (begun another : Begun) (since after : List ProposerCall)
       → IsOpen calls begun since → IsOpen calls another after → (begun ≡ another) × (since ≡ after)
-  pub answers : (members : ℕ) (begun : Begun) (since : List Call) (p : Promise)
+  pub answers : (members : ℕ) (begun : Begun) (since : List ProposerCall) (p : Promise) → begun.reach ≡ OneSlot
       → Contains (answering members begun since) p ↔ (Contains since (Promises p) × IsAnswerTo members begun p)
 
 -- ---- who sent one
@@ -78,11 +79,12 @@ first_from a (q ∷ ps) e = elim (cases_eq q.sender a) as (λ _. FirstFrom a (q 
 
 -- ---- one call more
 
-answering-append : (members : ℕ) (begun : Begun) (calls more : List Call) → answering members begun (calls ++ more) ≡ answering members begun calls ++ answering members begun more
+answering-append : (members : ℕ) (begun : Begun) (calls more : List ProposerCall) → answering members begun (calls ++ more) ≡ answering members begun calls ++ answering members begun more
 answering-append members begun calls more =
-    rw (filter_map-append promise_in calls more) (filter-append (is_for members begun) (filter_map promise_in calls) (filter_map promise_in more))
+    rw (filter_map-append (promise_in begun.reach begun.slot) calls more)
+    (filter-append (is_for members begun) (filter_map (promise_in begun.reach begun.slot) calls) (filter_map (promise_in begun.reach begun.slot) more))
 
-majority_more : (members : ℕ) (begun : Begun) (since : List Call) (call : Call) → HasMajority members (answering members begun since)
+majority_more : (members : ℕ) (begun : Begun) (since : List ProposerCall) (call : ProposerCall) → HasMajority members (answering members begun since)
     → HasMajority members (answering members begun (since ++ call ∷ []))
 majority_more members begun since call majority =
     let few = answering members begun since in
@@ -92,35 +94,35 @@ majority_more members begun since call majority =
     (λ a lt e. list_any-append (is_from a) few more ∙ or_left (is_sender few a) (is_sender more a) e) majority)
 
 -- what is open with one call more began with it, or was open before
-pub data OpenMore (calls : List Call) (call : Call) (begun : Begun) (since : List Call) : Type 0 where
+pub data OpenMore (calls : List ProposerCall) (call : ProposerCall) (begun : Begun) (since : List ProposerCall) : Type 0 where
   begins_now : call ≡ Begins begun → OpenMore calls call begun since
-  was_open : (rest : List Call) → since ≡ rest ++ call ∷ [] → IsOpen calls begun rest → ends begun call ≡ false → OpenMore calls call begun since
+  was_open : (rest : List ProposerCall) → since ≡ rest ++ call ∷ [] → IsOpen calls begun rest → ends begun call ≡ false → OpenMore calls call begun since
 
-open_by_split : (calls : List Call) (call : Call) (begun : Begun) (since : List Call) (is_open : IsOpen (calls ++ call ∷ []) begun since)
+open_by_split : (calls : List ProposerCall) (call : ProposerCall) (begun : Begun) (since : List ProposerCall) (is_open : IsOpen (calls ++ call ∷ []) begun since)
     → SplitsMore calls call is_open.before (Begins begun) since → OpenMore calls call begun since
 open_by_split calls call begun since is_open (at_last b e a) = begins_now (sym e)
 open_by_split calls call begun since is_open (earlier rest a b) =
-    let all = subst (λ (l : List Call). AllByRecursion (λ c. ends begun c ≡ false) l) a is_open.goes_on in
+    let all = subst (λ (l : List ProposerCall). AllByRecursion (λ c. ends begun c ≡ false) l) a is_open.goes_on in
     was_open rest a (record {
       before = is_open.before;
       split = b;
       goes_on = all_front (λ c. ends begun c ≡ false) rest (call ∷ []) all;
     }) (all_last (λ c. ends begun c ≡ false) rest call all)
 
-pub open_more : (calls : List Call) (call : Call) (begun : Begun) (since : List Call) → IsOpen (calls ++ call ∷ []) begun since → OpenMore calls call begun since
+pub open_more : (calls : List ProposerCall) (call : ProposerCall) (begun : Begun) (since : List ProposerCall) → IsOpen (calls ++ call ∷ []) begun since → OpenMore calls call begun since
 open_more calls call begun since is_open = open_by_split calls call begun since is_open (splits_more calls call is_open.before (Begins begun) since is_open.split)
 
 -- ---- what is known with one call more
 
-module _ (members : ℕ) (WasSaid : ℕ → Saying → Type 0) (me : ℕ) (records : List Record) (asked : List Call) (heard : List Told) (knows : KnowsCalls members WasSaid me records asked heard) where
-  abbrev Completed : Begun → List Call → Type 0
+module _ (members : ℕ) (WasSaid : ℕ → Saying → Type 0) (me : ℕ) (records : List Record) (asked : List ProposerCall) (heard : List Told) (knows : KnowsCalls members WasSaid me records asked heard) where
+  abbrev Completed : Begun → List ProposerCall → Type 0
   Completed b since = HasMajority members (answering members b since)
 
-  still_complete : (call : Call) (b : Begun) (since : List Call) → (call ≡ Begins b → ⊥) → OpenMore asked call b since
+  still_complete : (call : ProposerCall) (b : Begun) (since : List ProposerCall) → (call ≡ Begins b → ⊥) → OpenMore asked call b since
       → (s : ℕ) (v : Value) → WasSaid s (say.Accept b.ballot v) → Completed b since
   still_complete call b since no_begin (begins_now e) s v was = absurd (no_begin e)
   still_complete call b since no_begin (was_open rest e is_open not_ended) s v was =
-      subst (λ (l : List Call). Completed b l) (sym e) (majority_more members b rest call (knows.complete b rest is_open s v was))
+      subst (λ (l : List ProposerCall). Completed b l) (sym e) (majority_more members b rest call (knows.complete b rest is_open s v was))
 
   pub promised_too : (q : Promise) → WasSaid q.slot (say.Promise q.sender q.ballot q.report) → KnowsCalls members WasSaid me records (asked ++ Promises q ∷ []) heard
   promised_too q was = record {
@@ -130,6 +132,10 @@ module _ (members : ℕ) (WasSaid : ℕ → Saying → Type 0) (me : ℕ) (recor
     ];
     begun = λ b has. elim (last_or_before asked (Promises q) (Begins b) has) as (λ _. (b.ballot.node ≡ me) × Contains records (Began b.ballot)) [
       | inl there ↦ knows.begun b there
+      | inr last ↦ absurd (let no : Begins b ≡ Promises q = last in cc)
+    ];
+    plain = λ b has. elim (last_or_before asked (Promises q) (Begins b) has) as (λ _. b.reach ≡ OneSlot) [
+      | inl there ↦ knows.plain b there
       | inr last ↦ absurd (let no : Begins b ≡ Promises q = last in cc)
     ];
     complete = λ b since is_open. still_complete (Promises q) b since (λ e. let no : Promises q ≡ Begins b = e in cc) (open_more asked (Promises q) b since is_open);
@@ -146,13 +152,17 @@ module _ (members : ℕ) (WasSaid : ℕ → Saying → Type 0) (me : ℕ) (recor
       | inl there ↦ knows.begun b there
       | inr last ↦ absurd (let no : Begins b ≡ Nacks slot ballot = last in cc)
     ];
+    plain = λ b has. elim (last_or_before asked (Nacks slot ballot) (Begins b) has) as (λ _. b.reach ≡ OneSlot) [
+      | inl there ↦ knows.plain b there
+      | inr last ↦ absurd (let no : Begins b ≡ Nacks slot ballot = last in cc)
+    ];
     complete = λ b since is_open. still_complete (Nacks slot ballot) b since (λ e. let no : Nacks slot ballot ≡ Begins b = e in cc) (open_more asked (Nacks slot ballot) b since is_open);
     told_of = knows.told_of;
   }
 
   -- an attempt begins at a ballot of this node, of which there is a record more, and at which nothing was proposed
-  module _ (new : Begun) (own : new.ballot.node ≡ me) (fresh : (s : ℕ) (v : Value) → WasSaid s (say.Accept new.ballot v) → ⊥) where
-    begun_complete : (b : Begun) (since : List Call) → OpenMore asked (Begins new) b since → (s : ℕ) (v : Value) → WasSaid s (say.Accept b.ballot v) → Completed b since
+  module _ (new : Begun) (own : new.ballot.node ≡ me) (one_slot : new.reach ≡ OneSlot) (fresh : (s : ℕ) (v : Value) → WasSaid s (say.Accept new.ballot v) → ⊥) where
+    begun_complete : (b : Begun) (since : List ProposerCall) → OpenMore asked (Begins new) b since → (s : ℕ) (v : Value) → WasSaid s (say.Accept b.ballot v) → Completed b since
     begun_complete b since (begins_now e) s v was =
         let same : new ≡ b = cc in
         absurd (fresh s v (subst (λ (x : Begun). WasSaid s (say.Accept x.ballot v)) (sym same) was))
@@ -170,26 +180,31 @@ module _ (members : ℕ) (WasSaid : ℕ → Saying → Type 0) (me : ℕ) (recor
             let same : new ≡ b = cc in
             subst (λ (x : Begun). (x.ballot.node ≡ me) × Contains (records ++ Began new.ballot ∷ []) (Began x.ballot)) same (own, last_in records (Began new.ballot))
       ];
+      plain = λ b has. elim (last_or_before asked (Begins new) (Begins b) has) as (λ _. b.reach ≡ OneSlot) [
+        | inl there ↦ knows.plain b there
+        | inr last ↦ let same : new ≡ b = cc in subst (λ (x : Begun). x.reach ≡ OneSlot) same one_slot
+      ];
       complete = λ b since is_open. begun_complete b since (open_more asked (Begins new) b since is_open);
       told_of = knows.told_of;
     }
 
 -- one record more changes nothing of the calls
-pub calls_with_record : (members : ℕ) (WasSaid : ℕ → Saying → Type 0) (me : ℕ) (records : List Record) (r : Record) (asked : List Call) (heard : List Told)
+pub calls_with_record : (members : ℕ) (WasSaid : ℕ → Saying → Type 0) (me : ℕ) (records : List Record) (r : Record) (asked : List ProposerCall) (heard : List Told)
     → KnowsCalls members WasSaid me records asked heard → KnowsCalls members WasSaid me (records ++ r ∷ []) asked heard
 calls_with_record members WasSaid me records r asked heard knows = record {
   promises = knows.promises;
   begun = λ b has. let it = knows.begun b has in (it.0, before_last records r (Began b.ballot) it.1);
+  plain = knows.plain;
   complete = knows.complete;
   told_of = knows.told_of;
 }
 
 -- ---- an Accept
 
-module _ (laws : ProposerLaws) (members : ℕ) (WasSaid : ℕ → Saying → Type 0) (me : ℕ) (records : List Record) (asked : List Call) (heard : List Told)
+module _ (laws : ProposerLaws) (members : ℕ) (WasSaid : ℕ → Saying → Type 0) (me : ℕ) (records : List Record) (asked : List ProposerCall) (heard : List Told)
     (knows : KnowsCalls members WasSaid me records asked heard)
     (q : Promise) (was_sent : WasSaid q.slot (say.Promise q.sender q.ballot q.report)) (answer : ℕ × Ballot × Value) (accepts : LeadsToAccept members asked q answer) where
-  abbrev Now : List Call
+  abbrev Now : List ProposerCall
   Now = accepts.since ++ Promises q ∷ []
 
   -- said of the attempt's slot
@@ -204,7 +219,7 @@ module _ (laws : ProposerLaws) (members : ℕ) (WasSaid : ℕ → Saying → Typ
 
   asked_before : (p : Promise) → Contains accepts.since (Promises p) → Contains asked (Promises p)
   asked_before p has =
-      subst (λ (l : List Call). Contains l (Promises p)) (sym accepts.open_is.split)
+      subst (λ (l : List ProposerCall). Contains l (Promises p)) (sym accepts.open_is.split)
       (Contains-append_right accepts.open_is.before (Begins accepts.begun ∷ accepts.since) (Promises p) (behind_front (Begins accepts.begun) (Promises p) accepts.since has))
 
   was_handed : (p : Promise) → Contains Now (Promises p) → WasSaid p.slot (say.Promise p.sender p.ballot p.report)
@@ -213,8 +228,11 @@ module _ (laws : ProposerLaws) (members : ℕ) (WasSaid : ℕ → Saying → Typ
     | inr last ↦ let same : q ≡ p = cc in subst (λ (x : Promise). WasSaid x.slot (say.Promise x.sender x.ballot x.report)) same was_sent
   ]
 
+  begun_here : Contains asked (Begins accepts.begun)
+  begun_here = subst (λ (l : List ProposerCall). Contains l (Begins accepts.begun)) (sym accepts.open_is.split) (in_middle accepts.open_is.before accepts.since (Begins accepts.begun))
+
   answered : (p : Promise) → Contains Counted p → Contains Now (Promises p) × IsAnswerTo members accepts.begun p
-  answered p has = (laws.answers members accepts.begun Now p).0 (first_in Answering p has)
+  answered p has = (laws.answers members accepts.begun Now p (knows.plain accepts.begun begun_here)).0 (first_in Answering p has)
 
   -- what counts was sent, for this slot and at this ballot
   was_promised : (p : Promise) → Contains Counted p → Was (say.Promise p.sender accepts.begun.ballot p.report)
@@ -291,12 +309,11 @@ module _ (laws : ProposerLaws) (members : ℕ) (WasSaid : ℕ → Saying → Typ
   pub accept_is_own : (answer.1.node ≡ me) × Contains records (Began answer.1)
   accept_is_own =
       subst (λ (b : Ballot). (b.node ≡ me) × Contains records (Began b)) (sym accepts.ballot_is)
-      (knows.begun accepts.begun (subst (λ (l : List Call). Contains l (Begins accepts.begun)) (sym accepts.open_is.split)
-      (in_middle accepts.open_is.before accepts.since (Begins accepts.begun))))
+      (knows.begun accepts.begun begun_here)
 
   -- with it the open attempt has its majority
-  pub complete_now : (b : Begun) (since : List Call) → IsOpen (asked ++ Promises q ∷ []) b since → HasMajority members (answering members b since)
+  pub complete_now : (b : Begun) (since : List ProposerCall) → IsOpen (asked ++ Promises q ∷ []) b since → HasMajority members (answering members b since)
   complete_now b since is_open =
       let one = laws.attempts (asked ++ Promises q ∷ []) accepts.begun b Now since (laws.goes_on asked accepts.since accepts.begun q accepts.open_is) is_open in
       subst (λ (x : Begun). HasMajority members (answering members x since)) one.0
-      (subst (λ (l : List Call). HasMajority members (answering members accepts.begun l)) one.1 accepts.completes.now)
+      (subst (λ (l : List ProposerCall). HasMajority members (answering members accepts.begun l)) one.1 accepts.completes.now)

@@ -6,7 +6,7 @@ use Rattle.ballots.specs.Ballot.{Ballot}
 use Rattle.ballots.specs.declared.value.Value.{Value}
 use Rattle.ballots.specs.declared.record.Record.{Record}
 use Rattle.ballots.specs.declared.message.Message.{Message}
-use Rattle.proposer.specs.Call.{Begun, Call as Asked, Begins}
+use Rattle.proposer.specs.Call.{Begun, ProposerCall as Asked, Begins}
 use Rattle.proposer.specs.Choosing.{HasMajority}
 use Rattle.proposer.specs.Attempting.{IsOpen, answering}
 use Rattle.lawful_histories.specs.Saying.{Saying, says, sayings}
@@ -14,7 +14,7 @@ use Rattle.lawful_histories.specs.Saying as say
 use Rattle.lawful_histories.specs.Lawful.{Said}
 use Rattle.lawful_histories.specs.Messages.{Sent}
 use Rattle.agreement_rules.specs.Views.{Views}
-use Rattle.histories.specs.Following.{Seat, IsUp, IsDown, recovered_in}
+use Rattle.histories.specs.Following.{UpOrDown, IsUp, IsDown, recovered_in}
 use Rattle.histories.proofs.Lists.{only_one, in_middle}
 use Rattle.histories.proofs.Sayings.{WasSaidBefore, OneSays, said_by}
 use Rattle.histories.proofs.Rules.{AllowsSaying, Allows}
@@ -74,7 +74,7 @@ abbrev pub Apart : ℕ → List Message → Views → Type 0
 Apart members ms views = (b : Begun) (since : List Asked) → IsOpen views.proposer_calls b since → (s : ℕ) (v : Value) → OneSays ms s (say.Accept b.ballot v)
     → HasMajority members (answering members b since)
 
-abbrev pub ApartIfUp : ℕ → List Message → Seat → Type 0
+abbrev pub ApartIfUp : ℕ → List Message → UpOrDown → Type 0
 ApartIfUp members ms (IsUp views) = Apart members ms views
 ApartIfUp members ms (IsDown records due) = Unit {0}
 
@@ -83,11 +83,11 @@ begun_in asked b since is_open = subst (λ (l : List Asked). Contains l (Begins 
 
 module _ (members : ℕ) (WasSaid Now : ℕ → Saying → Type 0) (ms : List Message) (keeps : (s : ℕ) (x : Saying) → WasSaid s x → Now s x)
     (comes : (s : ℕ) (x : Saying) → Now s x → WasSaid s x ⊎ OneSays ms s x) where
-  up_later : (me : ℕ) (seat : Seat) → KnowsIfUp members WasSaid me seat → ApartIfUp members ms seat → KnowsIfUp members Now me seat
+  up_later : (me : ℕ) (seat : UpOrDown) → KnowsIfUp members WasSaid me seat → ApartIfUp members ms seat → KnowsIfUp members Now me seat
   up_later me (IsUp views) knows apart = calls_later members WasSaid Now ms keeps comes me views.records views.proposer_calls views.learner_calls knows apart
   up_later me (IsDown records due) knows apart = tt
 
-  pub seat_later : (me : ℕ) (seat : Seat) → KnowsSeat members WasSaid me seat → ((found : Bool) (m : Message) → Contains ms m → Covers me (recovered_in found seat) m)
+  pub seat_later : (me : ℕ) (seat : UpOrDown) → KnowsSeat members WasSaid me seat → ((found : Bool) (m : Message) → Contains ms m → Covers me (recovered_in found seat) m)
       → ApartIfUp members ms seat → KnowsSeat members Now me seat
   seat_later me seat knows covered apart = record {
     records = λ found. records_later members WasSaid Now ms keeps comes me (recovered_in found seat) (knows.records found) (covered found);
@@ -107,12 +107,12 @@ module _ (members : ℕ) (WasSaid Now : ℕ → Saying → Type 0) (ms : List Me
     others_ballot : (s : ℕ) (b : Ballot) (v : Value) → OneSays ms s (say.Accept b v) → b.node ≡ sender
     others_ballot s b v (m, has, is) = subst (IsOwnSaying sender) is (own m has s)
 
-    others_apart : (seat : Seat) → KnowsIfUp members WasSaid me seat → ApartIfUp members ms seat
+    others_apart : (seat : UpOrDown) → KnowsIfUp members WasSaid me seat → ApartIfUp members ms seat
     others_apart (IsUp views) knows = λ b since is_open s v has.
         absurd (other (sym (knows.begun b (begun_in views.proposer_calls b since is_open)).0 ∙ others_ballot s b.ballot v has))
     others_apart (IsDown records due) knows = tt
 
-    pub other_later : (seat : Seat) → KnowsSeat members WasSaid me seat → KnowsSeat members Now me seat
+    pub other_later : (seat : UpOrDown) → KnowsSeat members WasSaid me seat → KnowsSeat members Now me seat
     other_later seat knows =
         seat_later me seat knows (λ found m has s. others_covered (recovered_in found seat) s (says m s) (own m has s))
         (others_apart seat knows.up)

@@ -8,11 +8,11 @@ use Rattle.ballots.specs.declared.message.Message.{Message}
 use Rattle.ballots.specs.declared.message.Body.{Body}
 use Rattle.ballots.specs.declared.message.Body.TheVariants as body
 use Rattle.ballots.specs.Message.{value_bytes}
-use Rattle.learner.specs.Calls.{Call as LearnerCall, slot_of, IsLearned}
+use Rattle.learner.specs.Calls.{LearnerCall, slot_of, IsLearned}
 use Rattle.learner.specs.Calls as learner
 use Rattle.table_types.specs.Uploads.{Upload}
 use Rattle.table_types.specs.Tables.{outcome_of, unknown}
-use Rattle.agreement_rules.specs.Views.{Config, Views, with_waiting, IsFree, HasPrefix}
+use Rattle.agreement_rules.specs.Views.{AgreementConfig, Views, with_waiting, IsFree, HasPrefix}
 use Rattle.agreement_rules.specs.Due.{Plan, Due, Refuses, Plans, SlotsSpent, OutOfRange, quietly, also_learns, IsMessageOf, has_seen, TickIsDue, PartIsDue}
 use Rattle.histories.specs.Texts.{IsTextOf, IsUploadText, AreUploadsOf, HasUploads}
 use Rattle.histories.specs.Due.{Input, Put, Tick, Deliver, Waits, waits_too, AreStillWaiting, LearnsOf, BodyIsDue, IsDue, IsWellFormed}
@@ -56,12 +56,12 @@ some_wait uploads (text ∷ texts) each none =
 -- ---- the laws that are used
 
 pub record SomeDueLaws : Type 0 where
-  pub tick : (config : Config) (me : ℕ) (views : Views) (left : ℕ) → IsFree config.members views.learner_calls config.slot_limit
+  pub tick : (config : AgreementConfig) (me : ℕ) (views : Views) (left : ℕ) → IsFree config.members views.learner_calls config.slot_limit
       → NotNone ((due : Due) × TickIsDue config me views left due)
-  pub part : (config : Config) (me : ℕ) (views : Views) (sender slot : ℕ) (said : Body) → NotNone ((plan : Plan) × PartIsDue config me views sender slot said plan)
+  pub part : (config : AgreementConfig) (me : ℕ) (views : Views) (sender slot : ℕ) (said : Body) → NotNone ((plan : Plan) × PartIsDue config me views sender slot said plan)
   pub learned : LearnerLaw
 
-module _ (laws : SomeDueLaws) (config : Config) (me : ℕ) where
+module _ (laws : SomeDueLaws) (config : AgreementConfig) (me : ℕ) where
   some_prefix : (views : Views) → NotNone ((values : List Value) × HasPrefix config.members views.learner_calls values)
   some_prefix views none = laws.part config me views 0 0 body.Ask (λ it. none (it.1.0, it.1.1))
 

@@ -8,12 +8,12 @@ use Rattle.ballots.specs.declared.message.Message.{Message}
 use Rattle.ballots.specs.declared.message.Body.{Body}
 use Rattle.ballots.specs.declared.message.Body.TheVariants as body
 use Rattle.ballots.specs.Message.{message}
-use Rattle.proposer.specs.Call.{Begun, Call as Asked, Begins}
+use Rattle.proposer.specs.Call.{Begun, ProposerCall as Asked, Begins}
 use Rattle.table_types.specs.Uploads.{Upload}
 use Rattle.lawful_histories.specs.Lawful.{IsLawful}
 use Rattle.lawful_histories.specs.Saying.{Saying, says, sayings}
 use Rattle.lawful_histories.specs.Saying as say
-use Rattle.agreement_rules.specs.Views.{Config, Views, started_with}
+use Rattle.agreement_rules.specs.Views.{AgreementConfig, Views, started_with}
 use Rattle.agreement_rules.specs.Due.{Plan, Due, Refuses, Plans, record_due, BodyKeeps, MessageKeeps, TickKeeps}
 use Rattle.histories.specs.Due.{Input, IsDue, InputKeeps}
 use Rattle.agreement_rules.specs.Due as due
@@ -23,7 +23,7 @@ use Rattle.histories.specs.Event as event
 use Rattle.histories.specs.EventResult.{EventResult, count_of}
 use Rattle.histories.specs.EventResult as results
 use Rattle.histories.specs.History.{Step, History}
-use Rattle.histories.specs.Following.{Seat, IsUp, IsDown, recovered_in, down, reason_of, WantsMemory, PutGives, SendsGives, InputGives, CutGives, Delivers, GetGives, InfoGives, GetGivesIfAble, InfoGivesIfAble, OutcomeGives, QuestionGives, RestartGives, UpGives, RefusesAsDown, DownGives, SeatGives, StepFollows, StepsReach, at_first, Follows}
+use Rattle.histories.specs.Following.{UpOrDown, IsUp, IsDown, recovered_in, down, reason_of, WantsMemory, PutGives, SendsGives, InputGives, CutGives, Delivers, GetGives, InfoGives, GetGivesIfAble, InfoGivesIfAble, OutcomeGives, QueryGives, RestartGives, UpGives, RefusesAsDown, DownGives, NodeGives, StepFollows, StepsReach, at_first, Follows}
 use Rattle.histories.proofs.Lists.{nothing_in}
 use Rattle.histories.proofs.Sayings.{WasSaidBefore, of_its_slot, said_by, were_said}
 use Rattle.histories.proofs.Rules.{AllowsSaying, AreAllowed, slot_is_lawful}
@@ -44,6 +44,7 @@ knows_at_start members WasSaid me records knows = record {
   up = record {
     promises = λ p has. absurd (nothing_in _ has);
     begun = λ b has. absurd (nothing_in _ has);
+    plain = λ b has. absurd (nothing_in _ has);
     complete = λ b since is_open s v was. absurd (nothing_open b is_open.before since is_open.split);
     told_of = λ call has. absurd (nothing_in call has);
   };
@@ -51,12 +52,12 @@ knows_at_start members WasSaid me records knows = record {
 
 -- ---- what one node's step leaves
 
-module _ (config : Config) (sent : List Message) (next me : ℕ) where
+module _ (config : AgreementConfig) (sent : List Message) (next me : ℕ) where
   abbrev WasSaid : ℕ → Saying → Type 0
   WasSaid s x = WasSaidBefore sent next s x
 
   -- the messages that go out, all its own and allowed, and what the node knows then
-  pub record Moves (given : EventResult) (new : Seat) : Type 0 where
+  pub record Moves (given : EventResult) (new : UpOrDown) : Type 0 where
     pub ms : List Message
     pub count : count_of given ≡ length ms
     pub placed : take (length ms) (drop next sent) ≡ ms
@@ -65,11 +66,11 @@ module _ (config : Config) (sent : List Message) (next me : ℕ) where
     pub after : KnowsSeat config.members (WasSaidBefore sent (next + length ms)) me new
 
   -- nothing goes out
-  apart_of_none : (seat : Seat) → ApartIfUp config.members [] seat
+  apart_of_none : (seat : UpOrDown) → ApartIfUp config.members [] seat
   apart_of_none (IsUp views) = λ b since is_open s v (m, has, is). absurd (nothing_in m has)
   apart_of_none (IsDown records due) = tt
 
-  rests : (given : EventResult) (new : Seat) → count_of given ≡ 0 → KnowsSeat config.members WasSaid me new → Moves given new
+  rests : (given : EventResult) (new : UpOrDown) → count_of given ≡ 0 → KnowsSeat config.members WasSaid me new → Moves given new
   rests given new none knows = record {
     ms = [];
     count = none;
@@ -80,9 +81,9 @@ module _ (config : Config) (sent : List Message) (next me : ℕ) where
         (λ found m has. absurd (nothing_in m has)) (apart_of_none new);
   }
 
-  given_rests : (given other : EventResult) (new seat : Seat) → given ≡ other → count_of other ≡ 0 → new ≡ seat → KnowsSeat config.members WasSaid me seat → Moves given new
+  given_rests : (given other : EventResult) (new seat : UpOrDown) → given ≡ other → count_of other ≡ 0 → new ≡ seat → KnowsSeat config.members WasSaid me seat → Moves given new
   given_rests given other new seat is none same knows =
-      rests given new (ap count_of is ∙ none) (subst (λ (s : Seat). KnowsSeat config.members WasSaid me s) (sym same) knows)
+      rests given new (ap count_of is ∙ none) (subst (λ (s : UpOrDown). KnowsSeat config.members WasSaid me s) (sym same) knows)
 
   -- ---- a node that is up
 
@@ -94,7 +95,7 @@ module _ (config : Config) (sent : List Message) (next me : ℕ) where
     abbrev KeepsDue : Due → Type 0
     KeepsDue due = KeepsIfPlanned config.members sent next me views.records due
 
-    stays : (given other : EventResult) (new : Seat) → given ≡ other → count_of other ≡ 0 → new ≡ IsUp views → Moves given new
+    stays : (given other : EventResult) (new : UpOrDown) → given ≡ other → count_of other ≡ 0 → new ≡ IsUp views → Moves given new
     stays given other new is none same = given_rests given other new (IsUp views) is none same knows
 
     -- what is due leaves the node, before the messages go out
@@ -109,7 +110,7 @@ module _ (config : Config) (sent : List Message) (next me : ℕ) where
     }
 
     -- and then
-    goes_out : (plan : Plan) (given : EventResult) (new : Seat) → Keeps config.members sent next me views.records plan → given ≡ results.Sent next (length plan.sends)
+    goes_out : (plan : Plan) (given : EventResult) (new : UpOrDown) → Keeps config.members sent next me views.records plan → given ≡ results.Sent next (length plan.sends)
         → take (length plan.sends) (drop next sent) ≡ plan.sends → new ≡ IsUp plan.after → Moves given new
     goes_out plan given new keeps is placed same = record {
       ms = plan.sends;
@@ -117,7 +118,7 @@ module _ (config : Config) (sent : List Message) (next me : ℕ) where
       placed = placed;
       own = keeps.own;
       allowed = keeps.allowed;
-      after = subst (λ (s : Seat). KnowsSeat config.members (WasSaidBefore sent (next + length plan.sends)) me s) (sym same)
+      after = subst (λ (s : UpOrDown). KnowsSeat config.members (WasSaidBefore sent (next + length plan.sends)) me s) (sym same)
           (seat_later config.members WasSaid (WasSaidBefore sent (next + length plan.sends)) plan.sends (kept sent next plan.sends placed) (came sent next plan.sends placed) me (IsUp plan.after)
           (planned_seat plan keeps) (λ found m has. keeps.covered m has) keeps.apart);
     }
@@ -125,15 +126,15 @@ module _ (config : Config) (sent : List Message) (next me : ℕ) where
     no_count : (refusal : due.Refusal) → count_of (results.Refused (reason_of refusal)) ≡ 0
     no_count refusal = refl
 
-    of_step : (due : Due) (given : EventResult) (new : Seat) → KeepsDue due → SendsGives sent next views due given new → Moves given new
+    of_step : (due : Due) (given : EventResult) (new : UpOrDown) → KeepsDue due → SendsGives sent next views due given new → Moves given new
     of_step (Refuses refusal) given new keeps (is, same) = stays given (results.Refused (reason_of refusal)) new is (no_count refusal) same
     of_step (Plans plan) given new keeps (is, placed, same) = goes_out plan given new keeps is placed same
 
-    of_taking : (due : Due) (given : EventResult) (new : Seat) → KeepsDue due → PutGives views due given new → Moves given new
+    of_taking : (due : Due) (given : EventResult) (new : UpOrDown) → KeepsDue due → PutGives views due given new → Moves given new
     of_taking (Refuses refusal) given new keeps (is, same) = stays given (results.Refused (reason_of refusal)) new is (no_count refusal) same
     of_taking (Plans plan) given new keeps (is, same) = given_rests given results.Done new (IsUp plan.after) is refl same (planned_seat plan keeps)
 
-    wants : (given : EventResult) (new : Seat) → WantsMemory views given new → Moves given new
+    wants : (given : EventResult) (new : UpOrDown) → WantsMemory views given new → Moves given new
     wants given new (is, same) = stays given (results.Refused results.OutOfMemory) new is refl same
 
     -- a cut: the record that is due is kept, or it is not
@@ -164,7 +165,7 @@ module _ (config : Config) (sent : List Message) (next me : ℕ) where
     down_with : (due : Option Record) → MayBeDue WasSaid due → KnowsSeat config.members WasSaid me (IsDown views.records due)
     down_with due may = record { records = λ found. knows_with_due WasSaid me found views.records due of_records may; up = tt }
 
-    of_cut : (asked : Input) (given : EventResult) (new : Seat) → ((kept : Option Record) → InputKeeps config me views asked kept → MayBeDue WasSaid kept)
+    of_cut : (asked : Input) (given : EventResult) (new : UpOrDown) → ((kept : Option Record) → InputKeeps config me views asked kept → MayBeDue WasSaid kept)
         → CutGives config me views asked given new → Moves given new
     of_cut asked given new may (is, (kept, keeps, same)) =
         given_rests given results.Done new (IsDown views.records kept) is refl same (down_with kept (may kept keeps))
@@ -174,12 +175,12 @@ module _ (config : Config) (sent : List Message) (next me : ℕ) where
     tick_may left keeps kept (due, is_due, is) = subst (MayBeDue WasSaid) (sym is) (record_may due (keeps due is_due))
 
     -- what is due to an input
-    of_due_step : (asked : Input) (given : EventResult) (new : Seat) → ((due : Due) → IsDue config me views asked due → KeepsDue due)
+    of_due_step : (asked : Input) (given : EventResult) (new : UpOrDown) → ((due : Due) → IsDue config me views asked due → KeepsDue due)
         → InputGives config me views asked (SendsGives sent next views) given new → Moves given new
     of_due_step asked given new keeps (inl (due, is_due, gives)) = of_step due given new (keeps due is_due) gives
     of_due_step asked given new keeps (inr (allowed, out)) = wants given new out
 
-    of_due_put : (asked : Input) (given : EventResult) (new : Seat) → ((due : Due) → IsDue config me views asked due → KeepsDue due)
+    of_due_put : (asked : Input) (given : EventResult) (new : UpOrDown) → ((due : Due) → IsDue config me views asked due → KeepsDue due)
         → InputGives config me views asked (PutGives views) given new → Moves given new
     of_due_put asked given new keeps (inl (due, is_due, gives)) = of_taking due given new (keeps due is_due) gives
     of_due_put asked given new keeps (inr (allowed, out)) = wants given new out
@@ -197,12 +198,12 @@ module _ (config : Config) (sent : List Message) (next me : ℕ) where
     due_of_put : (text : List ℕ) (due : Due) → IsDue config me views (input.Put text) due → KeepsDue due
     due_of_put text due is_due = of_put laws config sent next me lawful views of_records knows.up text due is_due
 
-    of_delivery : (number : ℕ) (given : EventResult) (new : Seat)
+    of_delivery : (number : ℕ) (given : EventResult) (new : UpOrDown)
         → Delivers sent next number (λ m. InputGives config me views (input.Deliver m) (SendsGives sent next views)) views given new → Moves given new
     of_delivery number given new (inl (m, lt, is, gives)) = of_due_step (input.Deliver m) given new (due_of_message number m lt is) gives
     of_delivery number given new (inr (late, is, same)) = stays given (results.Refused results.NotSent) new is refl same
 
-    of_delivery_cut : (number : ℕ) (given : EventResult) (new : Seat)
+    of_delivery_cut : (number : ℕ) (given : EventResult) (new : UpOrDown)
         → Delivers sent next number (λ m. CutGives config me views (input.Deliver m)) views given new → Moves given new
     of_delivery_cut number given new (inl (m, lt, is, gives)) =
         of_cut (input.Deliver m) given new (λ kept. message_may m kept (delivered number m lt is)) gives
@@ -228,28 +229,28 @@ module _ (config : Config) (sent : List Message) (next me : ℕ) where
     info_counts_too uploads table given (inl gives) = info_counts uploads table given gives
     info_counts_too uploads table given (inr (some, e)) = ap count_of e
 
-    of_question : (Gives : List Upload → EventResult → Type 0) (given : EventResult) (new : Seat) → ((uploads : List Upload) → Gives uploads given → count_of given ≡ 0)
-        → QuestionGives config views Gives given new → Moves given new
+    of_question : (Gives : List Upload → EventResult → Type 0) (given : EventResult) (new : UpOrDown) → ((uploads : List Upload) → Gives uploads given → count_of given ≡ 0)
+        → QueryGives config views Gives given new → Moves given new
     of_question Gives given new counts (uploads, has, gives, same) =
-        rests given new (counts uploads gives) (subst (λ (s : Seat). KnowsSeat config.members WasSaid me s) (sym same) knows)
+        rests given new (counts uploads gives) (subst (λ (s : UpOrDown). KnowsSeat config.members WasSaid me s) (sym same) knows)
 
   -- ---- a start
 
-  down_knows : (old : Seat) → KnowsSeat config.members WasSaid me old → KnowsSeat config.members WasSaid me (down old)
+  down_knows : (old : UpOrDown) → KnowsSeat config.members WasSaid me old → KnowsSeat config.members WasSaid me (down old)
   down_knows (IsUp views) knows = record { records = λ found. knows.records true; up = tt }
   down_knows (IsDown records due) knows = knows
 
-  of_restart : (found : Bool) (old : Seat) (given : EventResult) (new : Seat) → KnowsSeat config.members WasSaid me old → RestartGives found old given new → Moves given new
+  of_restart : (found : Bool) (old : UpOrDown) (given : EventResult) (new : UpOrDown) → KnowsSeat config.members WasSaid me old → RestartGives found old given new → Moves given new
   of_restart found old given new knows (inl (is, same)) =
       given_rests given results.Done new (IsUp (started_with (recovered_in found old))) is refl same (knows_at_start config.members WasSaid me (recovered_in found old) (knows.records found))
   of_restart found old given new knows (inr (is, same)) = given_rests given (results.Refused results.OutOfMemory) new (down old) is refl same (down_knows old knows)
 
   -- ---- a node that is down
 
-  refuses : (old : Seat) (given : EventResult) (new : Seat) → KnowsSeat config.members WasSaid me old → RefusesAsDown old given new → Moves given new
+  refuses : (old : UpOrDown) (given : EventResult) (new : UpOrDown) → KnowsSeat config.members WasSaid me old → RefusesAsDown old given new → Moves given new
   refuses old given new knows (is, same) = given_rests given (results.Refused results.Down) new old is refl same knows
 
-  of_down : (found : Bool) (old : Seat) (e : Event) (given : EventResult) (new : Seat) → KnowsSeat config.members WasSaid me old → DownGives found old e given new → Moves given new
+  of_down : (found : Bool) (old : UpOrDown) (e : Event) (given : EventResult) (new : UpOrDown) → KnowsSeat config.members WasSaid me old → DownGives found old e given new → Moves given new
   of_down found old (event.Put node text) given new knows gives = refuses old given new knows gives
   of_down found old (event.Tick node left) given new knows gives = refuses old given new knows gives
   of_down found old (event.Deliver node number) given new knows gives = refuses old given new knows gives
@@ -262,11 +263,11 @@ module _ (config : Config) (sent : List Message) (next me : ℕ) where
 
 -- ---- any event of a node
 
-module _ (laws : Laws) (config : Config) (sent : List Message) (next : ℕ) (lawful : AreAllowed config.members sent next) where
-  abbrev KnowsNow : ℕ → Seat → Type 0
+module _ (laws : Laws) (config : AgreementConfig) (sent : List Message) (next : ℕ) (lawful : AreAllowed config.members sent next) where
+  abbrev KnowsNow : ℕ → UpOrDown → Type 0
   KnowsNow me seat = KnowsSeat config.members (WasSaidBefore sent next) me seat
 
-  of_up : (found : Bool) (views : Views) (e : Event) (given : EventResult) (new : Seat) → KnowsNow (node_of e) (IsUp views)
+  of_up : (found : Bool) (views : Views) (e : Event) (given : EventResult) (new : UpOrDown) → KnowsNow (node_of e) (IsUp views)
       → UpGives config sent next found views e given new → Moves config sent next (node_of e) given new
   of_up found views (event.Put node text) given new knows gives =
       of_due_put config sent next node laws lawful views knows (input.Put text) given new (due_of_put config sent next node laws lawful views knows text) gives
@@ -288,7 +289,7 @@ module _ (laws : Laws) (config : Config) (sent : List Message) (next : ℕ) (law
       of_question config sent next node laws lawful views knows (λ uploads. OutcomeGives uploads text) given new
       (λ uploads g. outcome_counts config sent next node laws lawful views knows uploads text given g) gives
 
-  pub of_event : (found : Bool) (old : Seat) (e : Event) (given : EventResult) (new : Seat) → KnowsNow (node_of e) old → SeatGives config sent next found old e given new
+  pub of_event : (found : Bool) (old : UpOrDown) (e : Event) (given : EventResult) (new : UpOrDown) → KnowsNow (node_of e) old → NodeGives config sent next found old e given new
       → Moves config sent next (node_of e) given new
   of_event found (IsUp views) e given new knows gives = of_up found views e given new knows gives
   of_event found (IsDown records due) e given new knows gives = of_down config sent next (node_of e) found (IsDown records due) e given new knows gives
@@ -296,12 +297,12 @@ module _ (laws : Laws) (config : Config) (sent : List Message) (next : ℕ) (law
 -- ---- all nodes
 
 -- what was said before this place is allowed, and every node knows what it has to
-pub record Holds (config : Config) (sent : List Message) (next : ℕ) (seats : ℕ → Seat) : Type 0 where
+pub record Holds (config : AgreementConfig) (sent : List Message) (next : ℕ) (seats : ℕ → UpOrDown) : Type 0 where
   pub lawful : AreAllowed config.members sent next
   pub each_knows : (a : ℕ) → KnowsSeat config.members (WasSaidBefore sent next) a (seats a)
 
-module _ (laws : Laws) (config : Config) (sent : List Message) where
-  module _ (next : ℕ) (old new : ℕ → Seat) (holds : Holds config sent next old) (me : ℕ) (given : EventResult) (moves : Moves config sent next me given (new me))
+module _ (laws : Laws) (config : AgreementConfig) (sent : List Message) where
+  module _ (next : ℕ) (old new : ℕ → UpOrDown) (holds : Holds config sent next old) (me : ℕ) (given : EventResult) (moves : Moves config sent next me given (new me))
       (others : (other : ℕ) → other ≢ me → new other ≡ old other) where
     abbrev End : ℕ
     End = next + length moves.ms
@@ -312,14 +313,14 @@ module _ (laws : Laws) (config : Config) (sent : List Message) where
       | inr ge ↦ each_allowed sent next moves.ms moves.placed config.members moves.allowed s k x ge lt h
     ]
 
-    abbrev KnowsThen : ℕ → Seat → Type 0
+    abbrev KnowsThen : ℕ → UpOrDown → Type 0
     KnowsThen a seat = KnowsSeat config.members (WasSaidBefore sent End) a seat
 
     knows_then : (a : ℕ) → KnowsThen a (new a)
     knows_then a = elim (cases_eq a me) as (λ _. KnowsThen a (new a)) [
       | inl own ↦ subst (λ (x : ℕ). KnowsThen x (new x)) (sym own) moves.after
       | inr other ↦
-          subst (λ (s : Seat). KnowsThen a s) (sym (others a other))
+          subst (λ (s : UpOrDown). KnowsThen a s) (sym (others a other))
           (other_later config.members (WasSaidBefore sent next) (WasSaidBefore sent End) moves.ms (kept sent next moves.ms moves.placed) (came sent next moves.ms moves.placed)
           a me other moves.own (old a) (holds.each_knows a))
     ]
@@ -328,23 +329,23 @@ module _ (laws : Laws) (config : Config) (sent : List Message) where
     holds_then =
         subst (λ (n : ℕ). Holds config sent (next + n) new) (sym moves.count) (let it : Holds config sent End new = record { lawful = lawful_then; each_knows = knows_then } in it)
 
-  outside : (next : ℕ) (old new : ℕ → Seat) (given : EventResult) → Holds config sent next old → given ≡ results.Refused results.OutOfRange → ((other : ℕ) → new other ≡ old other)
+  outside : (next : ℕ) (old new : ℕ → UpOrDown) (given : EventResult) → Holds config sent next old → given ≡ results.Refused results.OutOfRange → ((other : ℕ) → new other ≡ old other)
       → Holds config sent (next + count_of given) new
   outside next old new given holds is same =
       let end : next + count_of given ≡ next = omega (arith, ap count_of is) in
       subst (λ (n : ℕ). Holds config sent n new) (sym end) (record {
         lawful = holds.lawful;
-        each_knows = λ a. subst (λ (s : Seat). KnowsSeat config.members (WasSaidBefore sent next) a s) (sym (same a)) (holds.each_knows a);
+        each_knows = λ a. subst (λ (s : UpOrDown). KnowsSeat config.members (WasSaidBefore sent next) a s) (sym (same a)) (holds.each_knows a);
       })
 
-  one_step : (next : ℕ) (old : ℕ → Seat) (step : Step) (found : Bool) (new : ℕ → Seat) → Holds config sent next old → StepFollows config sent next old step found new
+  one_step : (next : ℕ) (old : ℕ → UpOrDown) (step : Step) (found : Bool) (new : ℕ → UpOrDown) → Holds config sent next old → StepFollows config sent next old step found new
       → Holds config sent (next + count_of step.result) new
   one_step next old step found new holds (inl (member, gives, others)) =
       holds_then next old new holds (node_of step.event) step.result
       (of_event laws config sent next holds.lawful found (old (node_of step.event)) step.event step.result (new (node_of step.event)) (holds.each_knows (node_of step.event)) gives) others
   one_step next old step found new holds (inr (no_member, is, same)) = outside next old new step.result holds is same
 
-  all_steps : (steps : List Step) (found : List Bool) (next : ℕ) (seats last : ℕ → Seat) → Holds config sent next seats → StepsReach config sent seats next steps found last
+  all_steps : (steps : List Step) (found : List Bool) (next : ℕ) (seats last : ℕ → UpOrDown) → Holds config sent next seats → StepsReach config sent seats next steps found last
       → AreAllowed config.members sent (length sent)
   all_steps [] found next seats last holds (none, end, same) s k x lt h = holds.lawful s k x (omega (arith, lt, end)) h
   all_steps (step ∷ steps) [] next seats last holds reaches s k x lt h = absurd reaches

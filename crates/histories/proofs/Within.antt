@@ -7,10 +7,10 @@ use Rattle.ballots.specs.declared.record.Record.{Record}
 use Rattle.ballots.specs.declared.message.Message.{Message}
 use Rattle.ballots.specs.declared.message.Body.{Body}
 use Rattle.ballots.specs.declared.message.Body.TheVariants as body
-use Rattle.learner.specs.Calls.{Call as LearnerCall, slot_of}
+use Rattle.learner.specs.Calls.{LearnerCall, slot_of}
 use Rattle.learner.specs.Calls as learner
 use Rattle.table_types.specs.Uploads.{Upload}
-use Rattle.agreement_rules.specs.Views.{Config, Views, started_with}
+use Rattle.agreement_rules.specs.Views.{AgreementConfig, Views, started_with}
 use Rattle.agreement_rules.specs.Due.{Plan, Due, Refuses, Plans, Aim, Attempts, AsksFrom, AsksAt, AimIsDue, TickIsDue, PartIsDue, IsMessageOf, has_seen}
 use Rattle.agreement_rules.specs.Due as due
 use Rattle.agreement_rules.specs.Calling.{proposer_calls_of, learner_calls_of}
@@ -21,20 +21,20 @@ use Rattle.histories.specs.Event.{Event, node_of}
 use Rattle.histories.specs.Event as event
 use Rattle.histories.specs.EventResult.{EventResult, count_of}
 use Rattle.histories.specs.History.{Step}
-use Rattle.histories.specs.Following.{Seat, IsUp, IsDown, recovered_in, down, PutGives, SendsGives, InputGives, CutGives, RestartGives, UpGives, RefusesAsDown, SeatGives, StepFollows, StepsReach, at_first}
+use Rattle.histories.specs.Following.{UpOrDown, IsUp, IsDown, recovered_in, down, PutGives, SendsGives, InputGives, CutGives, RestartGives, UpGives, RefusesAsDown, NodeGives, StepFollows, StepsReach, at_first}
 use Rattle.histories.proofs.Lists.{nothing_in, first_or_rest, last_or_before}
 
-pub record IsSound (config : Config) (views : Views) : Type 0 where
+pub record IsSound (config : AgreementConfig) (views : Views) : Type 0 where
   pub slots : (call : LearnerCall) → Contains views.learner_calls call → slot_of call < config.slot_limit
   pub uploads : (text : List ℕ) → Contains views.waiting text → IsUploadText text
 
-abbrev pub IsSoundSeat : Config → Seat → Type 0
+abbrev pub IsSoundSeat : AgreementConfig → UpOrDown → Type 0
 IsSoundSeat config (IsUp views) = IsSound config views
 IsSoundSeat config (IsDown records due) = Unit {0}
 
 -- a message leaves a node with what it tells the node's parts
 abbrev pub ToldToParts : Type 0
-ToldToParts = (config : Config) (me : ℕ) (views : Views) (sender slot : ℕ) (said : Body) (plan : Plan) → PartIsDue config me views sender slot said plan
+ToldToParts = (config : AgreementConfig) (me : ℕ) (views : Views) (sender slot : ℕ) (said : Body) (plan : Plan) → PartIsDue config me views sender slot said plan
     → plan.after ≡ record {
       records = views.records ++ cons_option plan.kept [];
       seen_round = views.seen_round;
@@ -43,10 +43,10 @@ ToldToParts = (config : Config) (me : ℕ) (views : Views) (sender slot : ℕ) (
       learner_calls = views.learner_calls ++ learner_calls_of sender slot said;
     }
 
-sound_at_start : (config : Config) (records : List Record) → IsSound config (started_with records)
+sound_at_start : (config : AgreementConfig) (records : List Record) → IsSound config (started_with records)
 sound_at_start config records = record { slots = λ call has. absurd (nothing_in call has); uploads = λ text has. absurd (nothing_in text has) }
 
-module _ (config : Config) (views : Views) (sound : IsSound config views) where
+module _ (config : AgreementConfig) (views : Views) (sound : IsSound config views) where
   same_sound : (after : Views) → after.learner_calls ≡ views.learner_calls → after.waiting ≡ views.waiting → IsSound config after
   same_sound after calls waiting = record {
     slots = λ call has. sound.slots call (subst (λ (l : List LearnerCall). Contains l call) calls has);
@@ -95,7 +95,7 @@ still_uploads uploads (first ∷ texts) left (inl (upload, rest, is, nothing, sa
     ]
 still_uploads uploads (first ∷ texts) left (inr (upload, is, known, waits)) text has = still_uploads uploads texts left waits text has
 
-module _ (told : ToldToParts) (config : Config) (me : ℕ) (views : Views) (sound : IsSound config views) (sender slot : ℕ) (within : slot < config.slot_limit) where
+module _ (told : ToldToParts) (config : AgreementConfig) (me : ℕ) (views : Views) (sound : IsSound config views) (sender slot : ℕ) (within : slot < config.slot_limit) where
   learning_sound : (call : LearnerCall) → slot_of call ≡ slot → (plan : Plan) → LearnsOf config views call plan → IsSound config plan.after
   learning_sound call of plan (uploads, left, has, waits, is) =
       subst (λ (p : Plan). IsSound config p.after) (sym is) (record {
@@ -125,8 +125,8 @@ module _ (told : ToldToParts) (config : Config) (me : ℕ) (views : Views) (soun
 
 -- ---- any event
 
-module _ (told : ToldToParts) (config : Config) (sent : List Message) (next : ℕ) where
-  sound_as : (new seat : Seat) → new ≡ seat → IsSoundSeat config seat → IsSoundSeat config new
+module _ (told : ToldToParts) (config : AgreementConfig) (sent : List Message) (next : ℕ) where
+  sound_as : (new seat : UpOrDown) → new ≡ seat → IsSoundSeat config seat → IsSoundSeat config new
   sound_as new seat same sound = subst (IsSoundSeat config) (sym same) sound
 
   module _ (me : ℕ) (views : Views) (sound : IsSound config views) where
@@ -136,29 +136,29 @@ module _ (told : ToldToParts) (config : Config) (sent : List Message) (next : �
     due_sound (input.Deliver m) plan (is_of, is_due) =
         body_sound told config me (has_seen views m) (record { slots = sound.slots; uploads = sound.uploads }) m.sender m.slot is_of.slot m.body plan is_due
 
-    sends_sound : (asked : Input) (given : EventResult) (new : Seat) → InputGives config me views asked (SendsGives sent next views) given new → IsSoundSeat config new
+    sends_sound : (asked : Input) (given : EventResult) (new : UpOrDown) → InputGives config me views asked (SendsGives sent next views) given new → IsSoundSeat config new
     sends_sound asked given new (inl (Refuses refusal, is_due, (is, same))) = sound_as new (IsUp views) same sound
     sends_sound asked given new (inl (Plans plan, is_due, (is, placed, same))) = sound_as new (IsUp plan.after) same (due_sound asked plan is_due)
     sends_sound asked given new (inr (allowed, (is, same))) = sound_as new (IsUp views) same sound
 
-    puts_sound : (text : List ℕ) (given : EventResult) (new : Seat) → InputGives config me views (input.Put text) (PutGives views) given new → IsSoundSeat config new
+    puts_sound : (text : List ℕ) (given : EventResult) (new : UpOrDown) → InputGives config me views (input.Put text) (PutGives views) given new → IsSoundSeat config new
     puts_sound text given new (inl (Refuses refusal, is_due, (is, same))) = sound_as new (IsUp views) same sound
     puts_sound text given new (inl (Plans plan, is_due, (is, same))) = sound_as new (IsUp plan.after) same (due_sound (input.Put text) plan is_due)
     puts_sound text given new (inr (allowed, (is, same))) = sound_as new (IsUp views) same sound
 
-    cuts_sound : (asked : Input) (given : EventResult) (new : Seat) → CutGives config me views asked given new → IsSoundSeat config new
+    cuts_sound : (asked : Input) (given : EventResult) (new : UpOrDown) → CutGives config me views asked given new → IsSoundSeat config new
     cuts_sound asked given new (is, (kept, keeps, same)) = sound_as new (IsDown views.records kept) same tt
 
-  down_sound : (old : Seat) → IsSoundSeat config (down old)
+  down_sound : (old : UpOrDown) → IsSoundSeat config (down old)
   down_sound (IsUp views) = tt
   down_sound (IsDown records due) = tt
 
-  restart_sound : (recovered : Bool) (old : Seat) (given : EventResult) (new : Seat) → RestartGives recovered old given new → IsSoundSeat config new
+  restart_sound : (recovered : Bool) (old : UpOrDown) (given : EventResult) (new : UpOrDown) → RestartGives recovered old given new → IsSoundSeat config new
   restart_sound recovered old given new (inl (is, same)) =
       sound_as new (IsUp (started_with (recovered_in recovered old))) same (sound_at_start config (recovered_in recovered old))
   restart_sound recovered old given new (inr (is, same)) = sound_as new (down old) same (down_sound old)
 
-  up_sound : (recovered : Bool) (views : Views) (e : Event) (given : EventResult) (new : Seat) → IsSound config views → UpGives config sent next recovered views e given new
+  up_sound : (recovered : Bool) (views : Views) (e : Event) (given : EventResult) (new : UpOrDown) → IsSound config views → UpGives config sent next recovered views e given new
       → IsSoundSeat config new
   up_sound recovered views (event.Put node text) given new sound gives = puts_sound node views sound text given new gives
   up_sound recovered views (event.Tick node left) given new sound gives = sends_sound node views sound (input.Tick left) given new gives
@@ -172,10 +172,10 @@ module _ (told : ToldToParts) (config : Config) (sent : List Message) (next : �
   up_sound recovered views (event.Info node table) given new sound (uploads, has, gives, same) = sound_as new (IsUp views) same sound
   up_sound recovered views (event.Outcome node text) given new sound (uploads, has, gives, same) = sound_as new (IsUp views) same sound
 
-  still_down : (records : List Record) (pending : Option Record) (given : EventResult) (new : Seat) → RefusesAsDown (IsDown records pending) given new → IsSoundSeat config new
+  still_down : (records : List Record) (pending : Option Record) (given : EventResult) (new : UpOrDown) → RefusesAsDown (IsDown records pending) given new → IsSoundSeat config new
   still_down records pending given new (is, same) = sound_as new (IsDown records pending) same tt
 
-  seat_sound : (recovered : Bool) (old : Seat) (e : Event) (given : EventResult) (new : Seat) → IsSoundSeat config old → SeatGives config sent next recovered old e given new
+  seat_sound : (recovered : Bool) (old : UpOrDown) (e : Event) (given : EventResult) (new : UpOrDown) → IsSoundSeat config old → NodeGives config sent next recovered old e given new
       → IsSoundSeat config new
   seat_sound recovered (IsUp views) e given new sound gives = up_sound recovered views e given new sound gives
   seat_sound recovered (IsDown records pending) (event.Put node text) given new sound gives = still_down records pending given new gives
@@ -188,7 +188,7 @@ module _ (told : ToldToParts) (config : Config) (sent : List Message) (next : �
   seat_sound recovered (IsDown records pending) (event.Info node table) given new sound gives = still_down records pending given new gives
   seat_sound recovered (IsDown records pending) (event.Outcome node text) given new sound gives = still_down records pending given new gives
 
-  step_sound : (old : ℕ → Seat) (step : Step) (recovered : Bool) (new : ℕ → Seat) → ((node : ℕ) → IsSoundSeat config (old node)) → StepFollows config sent next old step recovered new
+  step_sound : (old : ℕ → UpOrDown) (step : Step) (recovered : Bool) (new : ℕ → UpOrDown) → ((node : ℕ) → IsSoundSeat config (old node)) → StepFollows config sent next old step recovered new
       → (node : ℕ) → IsSoundSeat config (new node)
   step_sound old step recovered new sound (inl (member, gives, others)) node = elim (cases_eq node (node_of step.event)) as (λ _. IsSoundSeat config (new node)) [
     | inl own ↦
@@ -200,15 +200,15 @@ module _ (told : ToldToParts) (config : Config) (sent : List Message) (next : �
 
 -- ---- all steps
 
-module _ (told : ToldToParts) (config : Config) (sent : List Message) where
-  steps_sound : (steps : List Step) (recovered : List Bool) (seats last : ℕ → Seat) (next : ℕ) → ((node : ℕ) → IsSoundSeat config (seats node))
+module _ (told : ToldToParts) (config : AgreementConfig) (sent : List Message) where
+  steps_sound : (steps : List Step) (recovered : List Bool) (seats last : ℕ → UpOrDown) (next : ℕ) → ((node : ℕ) → IsSoundSeat config (seats node))
       → StepsReach config sent seats next steps recovered last → (node : ℕ) → IsSoundSeat config (last node)
-  steps_sound [] recovered seats last next sound (none, end, same) node = sound_as told config sent next (last node) (seats node) (ap (λ (f : ℕ → Seat). f node) same) (sound node)
+  steps_sound [] recovered seats last next sound (none, end, same) node = sound_as told config sent next (last node) (seats node) (ap (λ (f : ℕ → UpOrDown). f node) same) (sound node)
   steps_sound (s ∷ steps) [] seats last next sound reaches node = absurd reaches
   steps_sound (s ∷ steps) (r ∷ recovered) seats last next sound (after, one, asked, rest) node =
       steps_sound steps recovered after last (next + count_of s.result) (step_sound told config sent next seats s r after sound one) rest node
 
-  pub reached_sound : (steps : List Step) (recovered : List Bool) (seats : ℕ → Seat) → StepsReach config sent at_first 0 steps recovered seats → (node : ℕ) (views : Views)
+  pub reached_sound : (steps : List Step) (recovered : List Bool) (seats : ℕ → UpOrDown) → StepsReach config sent at_first 0 steps recovered seats → (node : ℕ) (views : Views)
       → seats node ≡ IsUp views → IsSound config views
   reached_sound steps recovered seats reaches node views up =
       subst (IsSoundSeat config) up (steps_sound steps recovered at_first seats 0 (λ n. sound_at_start config []) reaches node)

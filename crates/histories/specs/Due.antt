@@ -8,11 +8,11 @@ use Rattle.ballots.specs.declared.record.Record.{Record}
 use Rattle.ballots.specs.declared.message.Message.{Message}
 use Rattle.ballots.specs.declared.message.Body.{Body}
 use Rattle.ballots.specs.declared.message.Body.TheVariants.{Prepare, Promise, Nack, Accept, Accepted, Ask, Decided}
-use Rattle.learner.specs.Calls.{Call as LearnerCall}
+use Rattle.learner.specs.Calls.{LearnerCall}
 use Rattle.learner.specs.Calls as learner
 use Rattle.table_types.specs.Uploads.{Upload}
 use Rattle.table_types.specs.Tables.{outcome_of, unknown}
-use Rattle.agreement_rules.specs.Views.{Config, Views, with_waiting, HasPrefix}
+use Rattle.agreement_rules.specs.Views.{AgreementConfig, Views, with_waiting, HasPrefix}
 use Rattle.agreement_rules.specs.Due.{Plan, Due, Refuses, Plans, OutOfRange, SlotsSpent, quietly, also_learns, has_seen, IsMessageOf, TickIsDue, PartIsDue, TickKeeps, MessageKeeps}
 use Rattle.histories.specs.Texts.{IsTextOf, IsUploadText, HasUploads}
 
@@ -35,22 +35,22 @@ abbrev pub Waits : Views → List ℕ → Type 0
 Waits views text = Contains views.waiting text
 
 -- what the tables say of the upload is known, or is not
-abbrev pub IsKnown : Config → List LearnerCall → List ℕ → Type 0
+abbrev pub IsKnown : AgreementConfig → List LearnerCall → List ℕ → Type 0
 IsKnown config calls text =
     (upload : Upload) × (uploads : List Upload) × IsTextOf text upload × HasUploads config.members calls uploads
     × (outcome_of uploads upload ≡ unknown → ⊥)
 
-abbrev pub IsUnknown : Config → List LearnerCall → List ℕ → Type 0
+abbrev pub IsUnknown : AgreementConfig → List LearnerCall → List ℕ → Type 0
 IsUnknown config calls text =
     (upload : Upload) × (uploads : List Upload) × IsTextOf text upload × HasUploads config.members calls uploads
     × (outcome_of uploads upload ≡ unknown)
 
 -- every slot is in the prefix
-abbrev pub AreSpent : Config → List LearnerCall → Type 0
+abbrev pub AreSpent : AgreementConfig → List LearnerCall → Type 0
 AreSpent config calls =
     (values : List Value) × HasPrefix config.members calls values × (length values ≡ config.slot_limit)
 
-abbrev pub AreLeft : Config → List LearnerCall → Type 0
+abbrev pub AreLeft : AgreementConfig → List LearnerCall → Type 0
 AreLeft config calls =
     (values : List Value) × HasPrefix config.members calls values × (length values < config.slot_limit)
 
@@ -59,7 +59,7 @@ waits_too views text = with_waiting views (views.waiting ++ text ∷ [])
 
 -- An upload that waits already, or of which something is known, changes nothing. Another waits behind those that wait,
 -- while slots are left.
-abbrev pub PutIsDue : Config → Views → List ℕ → Due → Type 0
+abbrev pub PutIsDue : AgreementConfig → Views → List ℕ → Due → Type 0
 PutIsDue config views text (Refuses refusal) =
     (refusal ≡ SlotsSpent) × (Waits views text → ⊥) × IsUnknown config views.learner_calls text
     × AreSpent config views.learner_calls
@@ -80,7 +80,7 @@ AreStillWaiting uploads (text ∷ texts) left =
     × AreStillWaiting uploads texts left)
 
 -- its learner is called so too, and uploads of which something is known with it wait no more
-abbrev pub LearnsOf : Config → Views → LearnerCall → Plan → Type 0
+abbrev pub LearnsOf : AgreementConfig → Views → LearnerCall → Plan → Type 0
 LearnsOf config views call plan =
     (uploads : List Upload) × (left : List (List ℕ))
     × HasUploads config.members (views.learner_calls ++ call ∷ []) uploads
@@ -89,7 +89,7 @@ LearnsOf config views call plan =
 
 -- What a body of this sender and slot makes a node do that has seen its round: what its part in agreement does, and where
 -- that may learn something, what waits is looked through.
-abbrev pub BodyIsDue : Config → ℕ → Views → (sender slot : ℕ) → Body → Plan → Type 0
+abbrev pub BodyIsDue : AgreementConfig → ℕ → Views → (sender slot : ℕ) → Body → Plan → Type 0
 BodyIsDue config me views sender slot (Accepted acceptance) plan =
     LearnsOf config views (learner.Accepted sender slot acceptance.ballot acceptance.value) plan
 BodyIsDue config me views sender slot (Decided value) plan = LearnsOf config views (learner.Decided slot value) plan
@@ -103,20 +103,20 @@ BodyIsDue config me views sender slot (Accept proposal) plan =
     PartIsDue config me views sender slot (Accept proposal) plan
 BodyIsDue config me views sender slot Ask plan = PartIsDue config me views sender slot Ask plan
 
-abbrev pub MessageIsDue : Config → ℕ → Views → Message → Due → Type 0
+abbrev pub MessageIsDue : AgreementConfig → ℕ → Views → Message → Due → Type 0
 MessageIsDue config me views m (Refuses refusal) = (refusal ≡ OutOfRange) × (IsMessageOf config m → ⊥)
 MessageIsDue config me views m (Plans plan) =
     IsMessageOf config m × BodyIsDue config me (has_seen views m) m.sender m.slot m.body plan
 
 -- ---- all inputs
 
-abbrev pub IsDue : Config → ℕ → Views → Input → Due → Type 0
+abbrev pub IsDue : AgreementConfig → ℕ → Views → Input → Due → Type 0
 IsDue config me views (Put text) due = PutIsDue config views text due
 IsDue config me views (Tick left) due = TickIsDue config me views left due
 IsDue config me views (Deliver m) due = MessageIsDue config me views m due
 
 -- the record that is due to it
-abbrev pub InputKeeps : Config → ℕ → Views → Input → Option Record → Type 0
+abbrev pub InputKeeps : AgreementConfig → ℕ → Views → Input → Option Record → Type 0
 InputKeeps config me views (Put text) kept = kept ≡ None
 InputKeeps config me views (Tick left) kept = TickKeeps config me views left kept
 InputKeeps config me views (Deliver m) kept = MessageKeeps config views m kept

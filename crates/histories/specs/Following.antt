@@ -7,7 +7,7 @@ use Rattle.ballots.specs.declared.record.Record.{Record}
 use Rattle.table_types.specs.Uploads.{Upload}
 use Rattle.table_types.specs.Tables.{Version, version_of, effective, outcome_of}
 use Rattle.table_types.specs.Answers.{answer_of}
-use Rattle.agreement_rules.specs.Views.{Config, Views, started_with}
+use Rattle.agreement_rules.specs.Views.{AgreementConfig, Views, started_with}
 use Rattle.agreement_rules.specs.Due.{Refusal, Plan, Due, Refuses, Plans}
 use Rattle.agreement_rules.specs.Due as due
 use Rattle.histories.specs.Texts.{IsTextOf, HasUploads}
@@ -23,9 +23,9 @@ use Rattle.histories.specs.History.{Step, History}
 
 -- It is up, and has this; or it is down, with the records that it kept and the record that was due where it went down, of
 -- which nobody knows whether it was kept.
-pub data Seat : Type 0 where
-  IsUp : Views → Seat
-  IsDown : List Record → Option Record → Seat
+pub data UpOrDown : Type 0 where
+  IsUp : Views → UpOrDown
+  IsDown : List Record → Option Record → UpOrDown
 
 -- the record that was due is recovered, or it is not
 abbrev pub with_due : Bool → List Record → Option Record → List Record
@@ -34,12 +34,12 @@ with_due true records (Some due) = records ++ due ∷ []
 with_due false records (Some due) = records
 
 -- the records that a restart has
-abbrev pub recovered_in : Bool → Seat → List Record
+abbrev pub recovered_in : Bool → UpOrDown → List Record
 recovered_in recovered (IsUp views) = views.records
 recovered_in recovered (IsDown records due) = with_due recovered records due
 
 -- it went down, or was down
-abbrev pub down : Seat → Seat
+abbrev pub down : UpOrDown → UpOrDown
 down (IsUp views) = IsDown views.records None
 down (IsDown records due) = IsDown records due
 
@@ -53,16 +53,16 @@ reason_of due.RoundsSpent = results.RoundsSpent
 reason_of due.OutOfMemory = results.OutOfMemory
 
 -- memory was refused, and the node is as before
-abbrev pub WantsMemory : Views → EventResult → Seat → Type 0
+abbrev pub WantsMemory : Views → EventResult → UpOrDown → Type 0
 WantsMemory views given seat = (given ≡ results.Refused results.OutOfMemory) × (seat ≡ IsUp views)
 
 -- a put that is due
-abbrev pub PutGives : Views → Due → EventResult → Seat → Type 0
+abbrev pub PutGives : Views → Due → EventResult → UpOrDown → Type 0
 PutGives views (Refuses refusal) given seat = (given ≡ results.Refused (reason_of refusal)) × (seat ≡ IsUp views)
 PutGives views (Plans plan) given seat = (given ≡ results.Done) × (seat ≡ IsUp plan.after)
 
 -- a tick or a delivery that is due; the messages that go out are the next ones of the history
-abbrev pub SendsGives : List Message → ℕ → Views → Due → EventResult → Seat → Type 0
+abbrev pub SendsGives : List Message → ℕ → Views → Due → EventResult → UpOrDown → Type 0
 SendsGives sent next views (Refuses refusal) given seat =
     (given ≡ results.Refused (reason_of refusal)) × (seat ≡ IsUp views)
 SendsGives sent next views (Plans plan) given seat =
@@ -70,23 +70,23 @@ SendsGives sent next views (Plans plan) given seat =
     × (seat ≡ IsUp plan.after)
 
 -- no refusal is due to the input
-abbrev pub IsAllowed : Config → ℕ → Views → Input → Type 0
+abbrev pub IsAllowed : AgreementConfig → ℕ → Views → Input → Type 0
 IsAllowed config node views input = (refusal : Refusal) → IsDue config node views input (Refuses refusal) → ⊥
 
 -- what is due to the input; memory may be refused where no refusal is due
-abbrev pub InputGives : Config → ℕ → Views → Input → (Due → EventResult → Seat → Type 0) → EventResult → Seat → Type 0
+abbrev pub InputGives : AgreementConfig → ℕ → Views → Input → (Due → EventResult → UpOrDown → Type 0) → EventResult → UpOrDown → Type 0
 InputGives config node views input Gives given seat =
     ((due : Due) × IsDue config node views input due × Gives due given seat)
     ⊎ (IsAllowed config node views input × WantsMemory views given seat)
 
 -- the node goes down where its record is due, if one is; whether it was kept the next restart tells
-abbrev pub CutGives : Config → ℕ → Views → Input → EventResult → Seat → Type 0
+abbrev pub CutGives : AgreementConfig → ℕ → Views → Input → EventResult → UpOrDown → Type 0
 CutGives config node views input given seat =
     (given ≡ results.Done)
     × ((kept : Option Record) × InputKeeps config node views input kept × (seat ≡ IsDown views.records kept))
 
 -- the message of a delivery was sent before, or was not
-abbrev pub Delivers : List Message → ℕ → ℕ → (Message → EventResult → Seat → Type 0) → Views → EventResult → Seat → Type 0
+abbrev pub Delivers : List Message → ℕ → ℕ → (Message → EventResult → UpOrDown → Type 0) → Views → EventResult → UpOrDown → Type 0
 Delivers sent next number Gives views given seat =
     ((m : Message) × (number < next) × (slice_get sent number ≡ Some m) × Gives m given seat)
     ⊎ ((next ≤ number) × (given ≡ results.Refused results.NotSent) × (seat ≡ IsUp views))
@@ -118,19 +118,19 @@ InfoGivesIfAble uploads table given =
     ⊎ ((effective table uploads ≢ []) × (given ≡ results.Refused results.OutOfMemory))
 
 -- a question is answered from the tables of the node's prefix, and changes nothing
-abbrev pub QuestionGives : Config → Views → (List Upload → EventResult → Type 0) → EventResult → Seat → Type 0
-QuestionGives config views Gives given seat =
+abbrev pub QueryGives : AgreementConfig → Views → (List Upload → EventResult → Type 0) → EventResult → UpOrDown → Type 0
+QueryGives config views Gives given seat =
     (uploads : List Upload) × HasUploads config.members views.learner_calls uploads × Gives uploads given
     × (seat ≡ IsUp views)
 
 -- A restart gives a node with the records that it has and nothing else; where it wants memory, the node is down.
 -- `recovered` says whether the record that was due where the node went down is among them.
-abbrev pub RestartGives : Bool → Seat → EventResult → Seat → Type 0
+abbrev pub RestartGives : Bool → UpOrDown → EventResult → UpOrDown → Type 0
 RestartGives recovered old given seat =
     ((given ≡ results.Done) × (seat ≡ IsUp (started_with (recovered_in recovered old))))
     ⊎ ((given ≡ results.Refused results.OutOfMemory) × (seat ≡ down old))
 
-abbrev pub UpGives : Config → List Message → ℕ → Bool → Views → Event → EventResult → Seat → Type 0
+abbrev pub UpGives : AgreementConfig → List Message → ℕ → Bool → Views → Event → EventResult → UpOrDown → Type 0
 UpGives config sent next recovered views (event.Put node text) given seat =
     InputGives config node views (input.Put text) (PutGives views) given seat
 UpGives config sent next recovered views (event.Tick node left) given seat =
@@ -145,20 +145,20 @@ UpGives config sent next recovered views (event.DeliverCut node number) given se
 UpGives config sent next recovered views (event.Restart node) given seat =
     RestartGives recovered (IsUp views) given seat
 UpGives config sent next recovered views (event.Get node table version) given seat =
-    QuestionGives config views (λ uploads. GetGivesIfAble uploads table version) given seat
+    QueryGives config views (λ uploads. GetGivesIfAble uploads table version) given seat
 UpGives config sent next recovered views (event.Info node table) given seat =
-    QuestionGives config views (λ uploads. InfoGivesIfAble uploads table) given seat
+    QueryGives config views (λ uploads. InfoGivesIfAble uploads table) given seat
 UpGives config sent next recovered views (event.Outcome node text) given seat =
-    QuestionGives config views (λ uploads. OutcomeGives uploads text) given seat
+    QueryGives config views (λ uploads. OutcomeGives uploads text) given seat
 
 -- ---- one step
 
 -- the node is down, and stays so
-abbrev pub RefusesAsDown : Seat → EventResult → Seat → Type 0
+abbrev pub RefusesAsDown : UpOrDown → EventResult → UpOrDown → Type 0
 RefusesAsDown old given seat = (given ≡ results.Refused results.Down) × (seat ≡ old)
 
 -- a node that is down refuses all but a restart
-abbrev pub DownGives : Bool → Seat → Event → EventResult → Seat → Type 0
+abbrev pub DownGives : Bool → UpOrDown → Event → EventResult → UpOrDown → Type 0
 DownGives recovered old (event.Put node text) given seat = RefusesAsDown old given seat
 DownGives recovered old (event.Tick node left) given seat = RefusesAsDown old given seat
 DownGives recovered old (event.Deliver node number) given seat = RefusesAsDown old given seat
@@ -169,9 +169,9 @@ DownGives recovered old (event.Get node table version) given seat = RefusesAsDow
 DownGives recovered old (event.Info node table) given seat = RefusesAsDown old given seat
 DownGives recovered old (event.Outcome node text) given seat = RefusesAsDown old given seat
 
-abbrev pub SeatGives : Config → List Message → ℕ → Bool → Seat → Event → EventResult → Seat → Type 0
-SeatGives config sent next recovered (IsUp views) e given seat = UpGives config sent next recovered views e given seat
-SeatGives config sent next recovered (IsDown records due) e given seat =
+abbrev pub NodeGives : AgreementConfig → List Message → ℕ → Bool → UpOrDown → Event → EventResult → UpOrDown → Type 0
+NodeGives config sent next recovered (IsUp views) e given seat = UpGives config sent next recovered views e given seat
+NodeGives config sent next recovered (IsDown records due) e given seat =
     DownGives recovered (IsDown records due) e given seat
 
 -- whether a record was recovered is asked at a restart, and of no other event
@@ -187,10 +187,10 @@ IsAsked (event.Info node table) recovered = recovered ≡ false
 IsAsked (event.Outcome node text) recovered = recovered ≡ false
 
 -- The step is an event of a member, and all other nodes are as before; or of a node that is none, and nothing changes.
-abbrev pub StepFollows : Config → List Message → ℕ → (ℕ → Seat) → Step → Bool → (ℕ → Seat) → Type 0
+abbrev pub StepFollows : AgreementConfig → List Message → ℕ → (ℕ → UpOrDown) → Step → Bool → (ℕ → UpOrDown) → Type 0
 StepFollows config sent next old step recovered new =
     ((node_of step.event < config.members)
-    × SeatGives config sent next recovered (old (node_of step.event)) step.event step.result (new (node_of step.event))
+    × NodeGives config sent next recovered (old (node_of step.event)) step.event step.result (new (node_of step.event))
     × ((other : ℕ) → other ≢ node_of step.event → new other ≡ old other))
     ⊎ ((config.members ≤ node_of step.event) × (step.result ≡ results.Refused results.OutOfRange)
     × ((other : ℕ) → new other ≡ old other))
@@ -199,32 +199,32 @@ StepFollows config sent next old step recovered new =
 
 -- these steps follow from here on, one after the other, and leave the nodes so; the messages from `next` on are those that
 -- they send
-abbrev pub StepsReach : Config → List Message → (ℕ → Seat) → ℕ → List Step → List Bool → (ℕ → Seat) → Type 0
+abbrev pub StepsReach : AgreementConfig → List Message → (ℕ → UpOrDown) → ℕ → List Step → List Bool → (ℕ → UpOrDown) → Type 0
 StepsReach config sent seats next [] recovered last = (recovered ≡ []) × (next ≡ length sent) × (last ≡ seats)
 StepsReach config sent seats next (step ∷ steps) [] last = ⊥
 StepsReach config sent seats next (step ∷ steps) (recovered ∷ more) last =
-    (after : ℕ → Seat) × StepFollows config sent next seats step recovered after × IsAsked step.event recovered
+    (after : ℕ → UpOrDown) × StepFollows config sent next seats step recovered after × IsAsked step.event recovered
     × StepsReach config sent after (next + count_of step.result) steps more last
 
 -- These steps follow one another from where the nodes start so, send these messages and no others, and leave the nodes so. For
 -- each restart `recovered` says whether the record that was due where its node went down was recovered.
-abbrev pub ReachesFrom : Config → (ℕ → Seat) → List Message → List Step → List Bool → (ℕ → Seat) → Type 0
+abbrev pub ReachesFrom : AgreementConfig → (ℕ → UpOrDown) → List Message → List Step → List Bool → (ℕ → UpOrDown) → Type 0
 ReachesFrom config start sent steps recovered seats = StepsReach config sent start 0 steps recovered seats
 
 -- at first every node is up and has nothing
-abbrev pub at_first : ℕ → Seat
+abbrev pub at_first : ℕ → UpOrDown
 at_first node = IsUp (started_with [])
 
 -- likewise from the first on
-abbrev pub Reaches : Config → List Message → List Step → List Bool → (ℕ → Seat) → Type 0
+abbrev pub Reaches : AgreementConfig → List Message → List Step → List Bool → (ℕ → UpOrDown) → Type 0
 Reaches config sent steps recovered seats = ReachesFrom config at_first sent steps recovered seats
 
 -- For each restart somebody says whether the record that was due was recovered, and every step follows.
 pub record Follows (history : History) : Type 0 where
   pub recovered : List Bool
-  pub seats : ℕ → Seat
+  pub seats : ℕ → UpOrDown
   pub reached : Reaches history.config history.sent history.steps recovered seats
 
 -- the node is so, and all others are as before
-abbrev pub with_seat : (ℕ → Seat) → ℕ → Seat → (ℕ → Seat)
+abbrev pub with_seat : (ℕ → UpOrDown) → ℕ → UpOrDown → (ℕ → UpOrDown)
 with_seat seats node seat other = if other == node then seat else seats other

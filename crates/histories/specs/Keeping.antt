@@ -3,28 +3,28 @@
 use Rattle.std.specs.Prelude.{◌≡◌, ◌&&◌, Bool, true, false, if◌then◌else◌, Option, None, Some, List, [], ◌∷◌, ◌++◌, filter_map}
 use Rattle.ballots.specs.declared.message.Message.{Message}
 use Rattle.ballots.specs.declared.record.Record.{Record}
-use Rattle.agreement_rules.specs.Views.{Config}
+use Rattle.agreement_rules.specs.Views.{AgreementConfig}
 use Rattle.agreement_rules.specs.Due.{TickKeeps, MessageKeeps}
 use Rattle.agreement_rules.specs.Keeping.{record_of}
 use Rattle.histories.specs.Event.{Event, is_restart}
 use Rattle.histories.specs.Event as event
 use Rattle.histories.specs.EventResult.{is_done}
 use Rattle.histories.specs.History.{Step}
-use Rattle.histories.specs.Following.{Seat, IsUp, IsDown}
-use Rattle.histories.specs.Owning.{Entry, Leads}
+use Rattle.histories.specs.Following.{UpOrDown, IsUp, IsDown}
+use Rattle.histories.specs.Owning.{OwnEntry, Leads}
 
 -- the node was started again
 abbrev pub restarts : Step → Bool
 restarts step = is_restart step.event && is_done step.result
 
 -- the next of these entries that starts the node again recovers the record that was due before it
-abbrev pub is_recovered : List Entry → Bool
+abbrev pub is_recovered : List OwnEntry → Bool
 is_recovered [] = false
 is_recovered (entry ∷ entries) = if restarts entry.step then entry.recovered else is_recovered entries
 
 -- The record that was due where a node that was so went down: in a cut tick, or in a cut delivery of the message that it was
 -- handed. No other event leaves a record in doubt.
-abbrev pub IsDueAtCut : Config → Seat → Event → Option Message → Option Record → Type 0
+abbrev pub IsDueAtCut : AgreementConfig → UpOrDown → Event → Option Message → Option Record → Type 0
 IsDueAtCut config (IsDown records due) e handed kept = kept ≡ None
 IsDueAtCut config (IsUp views) (event.TickCut node left) handed kept = TickKeeps config node views left kept
 IsDueAtCut config (IsUp views) (event.DeliverCut node number) None kept = kept ≡ None
@@ -45,16 +45,16 @@ if_recovered false (Some due) = []
 
 -- The records that these entries made a node keep that was so, in order: that of each message that it sent, as it stands on
 -- a record, and that of each cut, where the restart behind the cut recovered it.
-abbrev pub AreKept : Config → Seat → List Entry → List Record → Type 0
+abbrev pub AreKept : AgreementConfig → UpOrDown → List OwnEntry → List Record → Type 0
 AreKept config seat [] records = records ≡ []
 AreKept config seat (entry ∷ entries) records =
-    (after : Seat) × (due : Option Record) × (more : List Record)
+    (after : UpOrDown) × (due : Option Record) × (more : List Record)
     × Leads config seat entry after
     × IsDueAtCut config seat entry.step.event entry.handed due
     × AreKept config after entries more
     × (records ≡ filter_map record_of entry.sends ++ (if_recovered (is_recovered entries) due ++ more))
 
 -- the records that a node has, but for one that was due where it went down
-abbrev pub records_in : Seat → List Record
+abbrev pub records_in : UpOrDown → List Record
 records_in (IsUp views) = views.records
 records_in (IsDown records due) = records

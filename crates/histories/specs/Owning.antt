@@ -1,17 +1,17 @@
 -- What one node did in a history: its own entries, each with the messages themselves in the place of their numbers, so that a
--- node can hold them by itself. Questions change no node, and have no entry.
+-- node can hold them by itself. Queries change no node, and have no entry.
 use Rattle.std.specs.Prelude.{◌≡◌, ℕ, ◌==◌, ◌&&◌, not, Bool, true, false, if◌then◌else◌, Option, None, Some, List, [], ◌∷◌, take, drop, slice_get}
 use Rattle.std.specs.Option.{option_and_then}
 use Rattle.ballots.specs.declared.message.Message.{Message}
-use Rattle.agreement_rules.specs.Views.{Config}
+use Rattle.agreement_rules.specs.Views.{AgreementConfig}
 use Rattle.histories.specs.Event.{Event, node_of}
 use Rattle.histories.specs.Event as event
 use Rattle.histories.specs.EventResult.{EventResult, Reason}
 use Rattle.histories.specs.EventResult as results
 use Rattle.histories.specs.History.{Step}
-use Rattle.histories.specs.Following.{Seat, SeatGives, IsAsked}
+use Rattle.histories.specs.Following.{UpOrDown, NodeGives, IsAsked}
 
-pub record Entry : Type 0 where
+pub record OwnEntry : Type 0 where
   pub step : Step
   -- of a restart: whether the record was recovered that was due where the node went down
   pub recovered : Bool
@@ -20,20 +20,20 @@ pub record Entry : Type 0 where
   -- the messages that it sent
   pub sends : List Message
 
-abbrev pub is_question : Event → Bool
-is_question (event.Put node text) = false
-is_question (event.Tick node left) = false
-is_question (event.Deliver node number) = false
-is_question (event.TickCut node left) = false
-is_question (event.DeliverCut node number) = false
-is_question (event.Restart node) = false
-is_question (event.Get node table version) = true
-is_question (event.Info node table) = true
-is_question (event.Outcome node text) = true
+abbrev pub is_query : Event → Bool
+is_query (event.Put node text) = false
+is_query (event.Tick node left) = false
+is_query (event.Deliver node number) = false
+is_query (event.TickCut node left) = false
+is_query (event.DeliverCut node number) = false
+is_query (event.Restart node) = false
+is_query (event.Get node table version) = true
+is_query (event.Info node table) = true
+is_query (event.Outcome node text) = true
 
 -- the event is one of this node that may change it
 abbrev pub concerns : ℕ → Event → Bool
-concerns node e = node_of e == node && not (is_question e)
+concerns node e = node_of e == node && not (is_query e)
 
 -- the number of the message that the event hands over
 abbrev pub number_in : Event → Option ℕ
@@ -82,7 +82,7 @@ sends_in sent results.NoTable = []
 sends_in sent (results.Outcome outcome) = []
 sends_in sent (results.Refused reason) = []
 
-abbrev pub entry_of : List Message → Step → Bool → Entry
+abbrev pub entry_of : List Message → Step → Bool → OwnEntry
 entry_of sent step recovered = record {
   step = step;
   recovered = recovered;
@@ -91,12 +91,12 @@ entry_of sent step recovered = record {
 }
 
 -- the entries of one step: one, or none where it does not concern the node
-abbrev pub entries_of : ℕ → List Message → Step → Bool → List Entry
+abbrev pub entries_of : ℕ → List Message → Step → Bool → List OwnEntry
 entries_of node sent step recovered =
     if concerns node step.event then entry_of sent step recovered ∷ [] else []
 
 -- the node's own entries in a history of these messages and steps
-abbrev pub own : ℕ → List Message → List Step → List Bool → List Entry
+abbrev pub own : ℕ → List Message → List Step → List Bool → List OwnEntry
 own node sent [] recovered = []
 own node sent (step ∷ steps) [] = []
 own node sent (step ∷ steps) (recovered ∷ more) =
@@ -104,16 +104,16 @@ own node sent (step ∷ steps) (recovered ∷ more) =
     else own node sent steps more
 
 -- In some history of messages the node's rules make the entry of the node that was so, and leave it so.
-pub record Leads (config : Config) (old : Seat) (entry : Entry) (new : Seat) : Type 0 where
+pub record Leads (config : AgreementConfig) (old : UpOrDown) (entry : OwnEntry) (new : UpOrDown) : Type 0 where
   pub sent : List Message
   pub next : ℕ
-  pub gives : SeatGives config sent next entry.recovered old entry.step.event entry.step.result new
+  pub gives : NodeGives config sent next entry.recovered old entry.step.event entry.step.result new
   pub asked : IsAsked entry.step.event entry.recovered
   pub handed_is : handed_in sent entry.step ≡ entry.handed
   pub sends_are : sends_in sent entry.step.result ≡ entry.sends
 
 -- these entries, one after the other, leave the node so
-abbrev pub OwnReaches : Config → Seat → List Entry → Seat → Type 0
+abbrev pub OwnReaches : AgreementConfig → UpOrDown → List OwnEntry → UpOrDown → Type 0
 OwnReaches config seat [] last = last ≡ seat
 OwnReaches config seat (entry ∷ entries) last =
-    (after : Seat) × Leads config seat entry after × OwnReaches config after entries last
+    (after : UpOrDown) × Leads config seat entry after × OwnReaches config after entries last

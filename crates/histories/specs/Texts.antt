@@ -2,7 +2,7 @@
 use Rattle.std.specs.Prelude.{ℕ, List, map}
 use Rattle.ballots.specs.declared.value.Value.{Value}
 use Rattle.ballots.specs.Message.{value_bytes}
-use Rattle.learner.specs.Calls.{Call as LearnerCall}
+use Rattle.learner.specs.Calls.{LearnerCall}
 use Rattle.table_types.specs.Uploads.{Upload}
 use Rattle.agreement_rules.specs.Views.{HasPrefix}
 pub use Rattle.table_types.specs.Texts.{IsTextOf, IsUploadText, AreUploadsOf}

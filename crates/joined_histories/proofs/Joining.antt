@@ -1,27 +1,27 @@
 -- Two parts of a history, one behind the other.
 use Rattle.std.proofs.Common.{◌≡◌, ℕ, ◌+◌, Bool, List, [], ◌∷◌, ◌++◌, length, map, refl, sym, ap, ap₂, subst, arith}
 use Rattle.ballots.specs.declared.message.Message.{Message}
-use Rattle.agreement_rules.specs.Views.{Config}
+use Rattle.agreement_rules.specs.Views.{AgreementConfig}
 use Rattle.histories.specs.Event.{Event}
 use Rattle.histories.specs.Event as event
 use Rattle.histories.specs.EventResult.{EventResult, count_of}
 use Rattle.histories.specs.EventResult as results
 use Rattle.histories.specs.History.{Step, History}
-use Rattle.histories.specs.Following.{Seat, StepFollows, StepsReach, ReachesFrom, Reaches, at_first, Follows}
+use Rattle.histories.specs.Following.{UpOrDown, StepFollows, StepsReach, ReachesFrom, Reaches, at_first, Follows}
 use Rattle.joined_histories.specs.Joined.{moved_event, moved_result, moved, joined, Precedes}
 use Rattle.joined_histories.proofs.Moving.{reaches_moved}
 
 -- a step that follows does so when more is sent later
 abbrev pub StillFollows : Type 0
-StillFollows = (config : Config) (sent more : List Message) (next : ℕ) (old new : ℕ → Seat) (step : Step) (recovered : Bool)
+StillFollows = (config : AgreementConfig) (sent more : List Message) (next : ℕ) (old new : ℕ → UpOrDown) (step : Step) (recovered : Bool)
     → StepFollows config sent next old step recovered new → StepFollows config (sent ++ more) next old step recovered new
 
-reach_then : StillFollows → (config : Config) (sent more : List Message) (later : List Step) (asked_later : List Bool) (mid last : ℕ → Seat)
+reach_then : StillFollows → (config : AgreementConfig) (sent more : List Message) (later : List Step) (asked_later : List Bool) (mid last : ℕ → UpOrDown)
     → StepsReach config (sent ++ more) mid (length sent) later asked_later last
-    → (steps : List Step) (found : List Bool) (seats : ℕ → Seat) (next : ℕ) → StepsReach config sent seats next steps found mid
+    → (steps : List Step) (found : List Bool) (seats : ℕ → UpOrDown) (next : ℕ) → StepsReach config sent seats next steps found mid
     → StepsReach config (sent ++ more) seats next (steps ++ later) (found ++ asked_later) last
 reach_then still config sent more later asked_later mid last rest [] [] seats next (none, end, same) =
-    subst (λ (s : ℕ → Seat). StepsReach config (sent ++ more) s next later asked_later last) same
+    subst (λ (s : ℕ → UpOrDown). StepsReach config (sent ++ more) s next later asked_later last) same
     (subst (λ (k : ℕ). StepsReach config (sent ++ more) mid k later asked_later last) (sym end) rest)
 reach_then still config sent more later asked_later mid last rest [] (f ∷ found) seats next (none, end, same) = absurd (cc)
 reach_then still config sent more later asked_later mid last rest (s ∷ steps) [] seats next reaches = absurd reaches
@@ -32,7 +32,7 @@ reach_then still config sent more later asked_later mid last rest (s ∷ steps) 
   reach_then still config sent more later asked_later mid last rest steps found after (next + count_of s.result) on,
 )
 
-pub precede : StillFollows → (config : Config) (start seats : ℕ → Seat) (before tail : History) (recovered : List Bool) → Precedes config start before
+pub precede : StillFollows → (config : AgreementConfig) (start seats : ℕ → UpOrDown) (before tail : History) (recovered : List Bool) → Precedes config start before
     → ReachesFrom config start tail.sent tail.steps recovered seats → Precedes config seats (joined before tail)
 precede still config start seats before tail recovered precedes reaches =
     let moved_tail = reaches_moved config before.sent tail.sent tail.steps recovered start seats 0 reaches in
@@ -45,11 +45,11 @@ precede still config start seats before tail recovered precedes reaches =
     }
 
 -- what precedes something follows the rules itself
-pub follow : (config : Config) (start : ℕ → Seat) (before : History) → Precedes config start before → Follows before
+pub follow : (config : AgreementConfig) (start : ℕ → UpOrDown) (before : History) → Precedes config start before → Follows before
 follow config start before precedes = record {
   recovered = precedes.recovered;
   seats = start;
-  reached = subst (λ (c : Config). Reaches c before.sent before.steps precedes.recovered start) (sym precedes.config_is) precedes.reached;
+  reached = subst (λ (c : AgreementConfig). Reaches c before.sent before.steps precedes.recovered start) (sym precedes.config_is) precedes.reached;
 }
 
 -- ---- nothing before

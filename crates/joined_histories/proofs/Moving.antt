@@ -1,7 +1,7 @@
 -- A step that follows still follows behind other messages, with its numbers so many greater.
 use Rattle.std.proofs.Common.{◌≡◌, ◌≢◌, ℕ, ◌+◌, ◌<◌, ◌≤◌, inl, inr, Bool, List, [], ◌∷◌, ◌++◌, length, take, map, refl, sym, ap, subst, ◌∙◌, arith, length-append}
 use Rattle.ballots.specs.declared.message.Message.{Message}
-use Rattle.agreement_rules.specs.Views.{Config, Views}
+use Rattle.agreement_rules.specs.Views.{AgreementConfig, Views}
 use Rattle.agreement_rules.specs.Due.{Due, Refuses, Plans}
 use Rattle.table_types.specs.Uploads.{Upload}
 use Rattle.histories.specs.Due.{Input}
@@ -11,7 +11,7 @@ use Rattle.histories.specs.Event as event
 use Rattle.histories.specs.EventResult.{EventResult, count_of}
 use Rattle.histories.specs.EventResult as results
 use Rattle.histories.specs.History.{Step}
-use Rattle.histories.specs.Following.{Seat, IsUp, IsDown, PutGives, SendsGives, InputGives, CutGives, Delivers, GetGivesIfAble, InfoGivesIfAble, OutcomeGives, RestartGives, UpGives, RefusesAsDown, DownGives, SeatGives, IsAsked, StepFollows, StepsReach}
+use Rattle.histories.specs.Following.{UpOrDown, IsUp, IsDown, PutGives, SendsGives, InputGives, CutGives, Delivers, GetGivesIfAble, InfoGivesIfAble, OutcomeGives, RestartGives, UpGives, RefusesAsDown, DownGives, NodeGives, IsAsked, StepFollows, StepsReach}
 use Rattle.joined_histories.specs.Joined.{moved_event, moved_result, moved}
 use Rattle.joined_histories.proofs.Places.{get_behind, drop_behind}
 
@@ -51,41 +51,41 @@ still_asked n (event.Outcome node text) found asked = asked
 
 -- ---- what is given
 
-module _ (config : Config) (before sent : List Message) (next : ℕ) where
+module _ (config : AgreementConfig) (before sent : List Message) (next : ℕ) where
   abbrev go : EventResult → EventResult
   go given = moved_result (length before) given
 
-  sends_gives : (views : Views) (due : Due) (given : EventResult) (seat : Seat) → SendsGives sent next views due given seat
+  sends_gives : (views : Views) (due : Due) (given : EventResult) (seat : UpOrDown) → SendsGives sent next views due given seat
       → SendsGives (before ++ sent) (length before + next) views due (go given) seat
   sends_gives views (Refuses refusal) given seat (is, same) = (ap go is, same)
   sends_gives views (Plans plan) given seat (is, placed, same) =
       (ap go is, ap (λ (l : List Message). take (length plan.sends) l) (drop_behind before sent next) ∙ placed, same)
 
-  put_gives : (views : Views) (due : Due) (given : EventResult) (seat : Seat) → PutGives views due given seat → PutGives views due (go given) seat
+  put_gives : (views : Views) (due : Due) (given : EventResult) (seat : UpOrDown) → PutGives views due given seat → PutGives views due (go given) seat
   put_gives views (Refuses refusal) given seat (is, same) = (ap go is, same)
   put_gives views (Plans plan) given seat (is, same) = (ap go is, same)
 
-  input_gives : (node : ℕ) (views : Views) (asked : Input) (given : EventResult) (seat : Seat) → InputGives config node views asked (SendsGives sent next views) given seat
+  input_gives : (node : ℕ) (views : Views) (asked : Input) (given : EventResult) (seat : UpOrDown) → InputGives config node views asked (SendsGives sent next views) given seat
       → InputGives config node views asked (SendsGives (before ++ sent) (length before + next) views) (go given) seat
   input_gives node views asked given seat (inl (due, is, gives)) = inl (due, is, sends_gives views due given seat gives)
   input_gives node views asked given seat (inr (allowed, (is, same))) = inr (allowed, (ap go is, same))
 
-  puts_give : (node : ℕ) (views : Views) (asked : Input) (given : EventResult) (seat : Seat) → InputGives config node views asked (PutGives views) given seat
+  puts_give : (node : ℕ) (views : Views) (asked : Input) (given : EventResult) (seat : UpOrDown) → InputGives config node views asked (PutGives views) given seat
       → InputGives config node views asked (PutGives views) (go given) seat
   puts_give node views asked given seat (inl (due, is, gives)) = inl (due, is, put_gives views due given seat gives)
   puts_give node views asked given seat (inr (allowed, (is, same))) = inr (allowed, (ap go is, same))
 
-  cut_gives : (node : ℕ) (views : Views) (asked : Input) (given : EventResult) (seat : Seat) → CutGives config node views asked given seat → CutGives config node views asked (go given) seat
+  cut_gives : (node : ℕ) (views : Views) (asked : Input) (given : EventResult) (seat : UpOrDown) → CutGives config node views asked given seat → CutGives config node views asked (go given) seat
   cut_gives node views asked given seat (is, kept) = (ap go is, kept)
 
-  delivers : (number : ℕ) (Before After : Message → EventResult → Seat → Type 0) (views : Views) (given : EventResult) (seat : Seat)
+  delivers : (number : ℕ) (Before After : Message → EventResult → UpOrDown → Type 0) (views : Views) (given : EventResult) (seat : UpOrDown)
       → ((m : Message) → Before m given seat → After m (go given) seat) → Delivers sent next number Before views given seat
       → Delivers (before ++ sent) (length before + next) (length before + number) After views (go given) seat
   delivers number Before After views given seat later (inl (m, lt, is, gives)) =
       inl (m, omega (arith, lt), get_behind before sent number ∙ is, later m gives)
   delivers number Before After views given seat later (inr (late, is, same)) = inr (omega (arith, late), ap go is, same)
 
-  restart_gives : (found : Bool) (old : Seat) (given : EventResult) (seat : Seat) → RestartGives found old given seat → RestartGives found old (go given) seat
+  restart_gives : (found : Bool) (old : UpOrDown) (given : EventResult) (seat : UpOrDown) → RestartGives found old given seat → RestartGives found old (go given) seat
   restart_gives found old given seat (inl (is, same)) = inl (ap go is, same)
   restart_gives found old given seat (inr (is, same)) = inr (ap go is, same)
 
@@ -102,7 +102,7 @@ module _ (config : Config) (before sent : List Message) (next : ℕ) where
   outcome_gives : (uploads : List Upload) (text : List ℕ) (given : EventResult) → OutcomeGives uploads text given → OutcomeGives uploads text (go given)
   outcome_gives uploads text given (upload, is_text, is) = (upload, is_text, ap go is)
 
-  up_gives : (found : Bool) (views : Views) (e : Event) (given : EventResult) (seat : Seat) → UpGives config sent next found views e given seat
+  up_gives : (found : Bool) (views : Views) (e : Event) (given : EventResult) (seat : UpOrDown) → UpGives config sent next found views e given seat
       → UpGives config (before ++ sent) (length before + next) found views (moved_event (length before) e) (go given) seat
   up_gives found views (event.Put node text) given seat gives = puts_give node views (input.Put text) given seat gives
   up_gives found views (event.Tick node left) given seat gives = input_gives node views (input.Tick left) given seat gives
@@ -119,10 +119,10 @@ module _ (config : Config) (before sent : List Message) (next : ℕ) where
   up_gives found views (event.Info node table) given seat (uploads, has, gives, same) = (uploads, has, info_gives uploads table given gives, same)
   up_gives found views (event.Outcome node text) given seat (uploads, has, gives, same) = (uploads, has, outcome_gives uploads text given gives, same)
 
-  still_down : (old : Seat) (given : EventResult) (seat : Seat) → RefusesAsDown old given seat → RefusesAsDown old (go given) seat
+  still_down : (old : UpOrDown) (given : EventResult) (seat : UpOrDown) → RefusesAsDown old given seat → RefusesAsDown old (go given) seat
   still_down old given seat (is, same) = (ap go is, same)
 
-  down_gives : (found : Bool) (old : Seat) (e : Event) (given : EventResult) (seat : Seat) → DownGives found old e given seat
+  down_gives : (found : Bool) (old : UpOrDown) (e : Event) (given : EventResult) (seat : UpOrDown) → DownGives found old e given seat
       → DownGives found old (moved_event (length before) e) (go given) seat
   down_gives found old (event.Put node text) given seat gives = still_down old given seat gives
   down_gives found old (event.Tick node left) given seat gives = still_down old given seat gives
@@ -134,20 +134,20 @@ module _ (config : Config) (before sent : List Message) (next : ℕ) where
   down_gives found old (event.Info node table) given seat gives = still_down old given seat gives
   down_gives found old (event.Outcome node text) given seat gives = still_down old given seat gives
 
-  seat_gives : (found : Bool) (old : Seat) (e : Event) (given : EventResult) (seat : Seat) → SeatGives config sent next found old e given seat
-      → SeatGives config (before ++ sent) (length before + next) found old (moved_event (length before) e) (go given) seat
+  seat_gives : (found : Bool) (old : UpOrDown) (e : Event) (given : EventResult) (seat : UpOrDown) → NodeGives config sent next found old e given seat
+      → NodeGives config (before ++ sent) (length before + next) found old (moved_event (length before) e) (go given) seat
   seat_gives found (IsUp views) e given seat gives = up_gives found views e given seat gives
   seat_gives found (IsDown records due) e given seat gives = down_gives found (IsDown records due) e given seat gives
 
   -- ---- a step
 
-  abbrev OfNode : (ℕ → Seat) → Step → Bool → (ℕ → Seat) → ℕ → Type 0
+  abbrev OfNode : (ℕ → UpOrDown) → Step → Bool → (ℕ → UpOrDown) → ℕ → Type 0
   OfNode old step found new node =
       (node < config.members)
-      × SeatGives config (before ++ sent) (length before + next) found (old node) (moved_event (length before) step.event) (go step.result) (new node)
+      × NodeGives config (before ++ sent) (length before + next) found (old node) (moved_event (length before) step.event) (go step.result) (new node)
       × ((other : ℕ) → other ≢ node → new other ≡ old other)
 
-  follows_moved : (old : ℕ → Seat) (step : Step) (found : Bool) (new : ℕ → Seat) → StepFollows config sent next old step found new
+  follows_moved : (old : ℕ → UpOrDown) (step : Step) (found : Bool) (new : ℕ → UpOrDown) → StepFollows config sent next old step found new
       → StepFollows config (before ++ sent) (length before + next) old (moved (length before) step) found new
   follows_moved old step found new (inl (member, gives, others)) =
       inl (subst (OfNode old step found new) (sym (same_node (length before) step.event))
@@ -157,7 +157,7 @@ module _ (config : Config) (before sent : List Message) (next : ℕ) where
 
 -- ---- all steps
 
-pub reaches_moved : (config : Config) (before sent : List Message) (steps : List Step) (found : List Bool) (seats last : ℕ → Seat) (next : ℕ) → StepsReach config sent seats next steps found last
+pub reaches_moved : (config : AgreementConfig) (before sent : List Message) (steps : List Step) (found : List Bool) (seats last : ℕ → UpOrDown) (next : ℕ) → StepsReach config sent seats next steps found last
     → StepsReach config (before ++ sent) seats (length before + next) (map (moved (length before)) steps) found last
 reaches_moved config before sent [] found seats last next (none, end, same) = (none, omega (arith, end, length-append before sent), same)
 reaches_moved config before sent (s ∷ steps) [] seats last next reaches = absurd reaches

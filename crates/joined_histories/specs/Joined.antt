@@ -6,8 +6,8 @@ use Rattle.histories.specs.Event as event
 use Rattle.histories.specs.EventResult.{EventResult}
 use Rattle.histories.specs.EventResult as results
 use Rattle.histories.specs.History.{Step, History}
-use Rattle.histories.specs.Following.{Seat, Reaches}
-use Rattle.agreement_rules.specs.Views.{Config}
+use Rattle.histories.specs.Following.{UpOrDown, Reaches}
+use Rattle.agreement_rules.specs.Views.{AgreementConfig}
 
 -- so many messages were sent before all that the event's number counts
 abbrev pub moved_event : ℕ → Event → Event
@@ -44,7 +44,7 @@ joined before tail = record {
 }
 
 -- The history follows the nodes' rules, and leaves the nodes as they start here.
-pub record Precedes (config : Config) (start : ℕ → Seat) (before : History) : Type 0 where
+pub record Precedes (config : AgreementConfig) (start : ℕ → UpOrDown) (before : History) : Type 0 where
   pub config_is : before.config ≡ config
   pub recovered : List Bool
   pub reached : Reaches config before.sent before.steps recovered start

@@ -6,12 +6,12 @@ ghost use Rattle.ballots.specs.declared.message.Message.{Message};
 ghost use Rattle.lawful_histories.specs.Lawful.{IsLawful};
 ghost use Rattle.table_types.specs.Uploads.{Upload};
 ghost use Rattle.table_types.specs.Tables.{applied};
-ghost use Rattle.agreement_rules.specs.Views.{Config, Views, HasPrefix};
+ghost use Rattle.agreement_rules.specs.Views.{AgreementConfig, Views, HasPrefix};
 ghost use Rattle.histories.specs.Texts.{IsTextOf};
 ghost use Rattle.histories.specs.History.{Step, History};
 ghost use Rattle.histories.specs.Event.{Get, Outcome as AsksOutcome};
 ghost use Rattle.histories.specs.EventResult.{EventResult, Answer, Outcome, Refused, OutOfMemory};
-ghost use Rattle.histories.specs.Following.{Seat, IsUp, at_first, ReachesFrom, Follows};
+ghost use Rattle.histories.specs.Following.{UpOrDown, IsUp, at_first, ReachesFrom, Follows};
 ghost use Rattle.safe_histories.specs.Learning.{brings_up, brings_down, Runs, HasLearnedPrefix};
 ghost use Rattle.safe_histories.specs.Safe.{IsStep, SameTicketSameBytes, AcknowledgedStandsOnce, IsSafe, StandsIn};
 ghost use Rattle.joined_histories.specs.Joined.{joined, Precedes};
@@ -23,10 +23,10 @@ use safe_histories::laws::{fresh_answers, prefix_is_shown, replicas_agree, up_is
 /// rules, and leaves the nodes where the tail does. So it may go before another tail in turn: histories of any number of
 /// parts are joined so.
 pub fn joined_histories_follow()
-    ensures precedes { (config : Config) (start seats : ℕ → Seat) (before tail : History) (recovered : List Bool)
+    ensures precedes { (config : AgreementConfig) (start seats : ℕ → UpOrDown) (before tail : History) (recovered : List Bool)
         → Precedes config start before → ReachesFrom config start tail.sent tail.steps recovered seats
         → Precedes config seats (joined before tail) }
-    ensures follows { (config : Config) (start seats : ℕ → Seat) (before tail : History) (recovered : List Bool)
+    ensures follows { (config : AgreementConfig) (start seats : ℕ → UpOrDown) (before tail : History) (recovered : List Bool)
         → Precedes config start before → ReachesFrom config start tail.sent tail.steps recovered seats
         → Follows (joined before tail) }
 {
@@ -35,16 +35,16 @@ pub fn joined_histories_follow()
 
 /// Where nothing went before, nodes start with nothing; and what is joined behind nothing is the tail itself.
 pub fn nothing_precedes_the_start()
-    ensures precedes { (config : Config) → Precedes config at_first (record { config = config; sent = []; steps = [] }) }
+    ensures precedes { (config : AgreementConfig) → Precedes config at_first (record { config = config; sent = []; steps = [] }) }
     ensures joined { (tail : History) → joined (record { config = tail.config; sent = []; steps = [] }) tail ≡ tail }
 {}
 
 /// Both parts together are lawful, and clients may rely on what was answered in either.
 pub fn joined_replicas_agree()
-    ensures lawful { (config : Config) (start seats : ℕ → Seat) (before tail : History) (recovered : List Bool)
+    ensures lawful { (config : AgreementConfig) (start seats : ℕ → UpOrDown) (before tail : History) (recovered : List Bool)
         → Precedes config start before → ReachesFrom config start tail.sent tail.steps recovered seats
         → IsLawful config.members (before.sent ++ tail.sent) }
-    ensures safe { (config : Config) (start seats : ℕ → Seat) (before tail : History) (recovered : List Bool)
+    ensures safe { (config : AgreementConfig) (start seats : ℕ → UpOrDown) (before tail : History) (recovered : List Bool)
         → Precedes config start before → ReachesFrom config start tail.sent tail.steps recovered seats
         → IsSafe (joined before tail) }
 {
@@ -56,13 +56,13 @@ pub fn joined_replicas_agree()
 /// place, and nowhere else, in every answer of the tail to a ticket of its table for that version or a later one. And a ticket
 /// that was answered before has the same bytes in the tail.
 pub fn acknowledgements_outlast()
-    ensures stands { (config : Config) (start seats : ℕ → Seat) (before tail : History) (recovered : List Bool)
+    ensures stands { (config : AgreementConfig) (start seats : ℕ → UpOrDown) (before tail : History) (recovered : List Bool)
         (i j k l number version : ℕ) (text y : List ℕ) (upload : Upload) → Precedes config start before
         → ReachesFrom config start tail.sent tail.steps recovered seats → IsTextOf text upload
         → IsStep before.steps i (AsksOutcome k text) (Outcome (applied number)) → number ≤ version
         → IsStep tail.steps j (Get l upload.table version) (Answer y)
         → (1 ≤ number) × StandsIn upload.table y version number upload }
-    ensures same { (config : Config) (start seats : ℕ → Seat) (before tail : History) (recovered : List Bool)
+    ensures same { (config : AgreementConfig) (start seats : ℕ → UpOrDown) (before tail : History) (recovered : List Bool)
         (i j k l version : ℕ) (table x y : List ℕ) → Precedes config start before
         → ReachesFrom config start tail.sent tail.steps recovered seats
         → IsStep before.steps i (Get k table version) (Answer x)
@@ -74,10 +74,10 @@ pub fn acknowledgements_outlast()
 /// What was answered in the tail alone keeps what clients may rely on: two answers to one ticket have equal bytes; and an
 /// upload that was told there to be applied as a version stands once in each answer that is to have it.
 pub fn tails_are_safe()
-    ensures tickets { (config : Config) (start seats : ℕ → Seat) (before tail : History) (recovered : List Bool)
+    ensures tickets { (config : AgreementConfig) (start seats : ℕ → UpOrDown) (before tail : History) (recovered : List Bool)
         → Precedes config start before → ReachesFrom config start tail.sent tail.steps recovered seats
         → SameTicketSameBytes tail.steps }
-    ensures acknowledged { (config : Config) (start seats : ℕ → Seat) (before tail : History) (recovered : List Bool)
+    ensures acknowledged { (config : AgreementConfig) (start seats : ℕ → UpOrDown) (before tail : History) (recovered : List Bool)
         → Precedes config start before → ReachesFrom config start tail.sent tail.steps recovered seats
         → AcknowledgedStandsOnce tail.steps }
 {
@@ -87,7 +87,7 @@ pub fn tails_are_safe()
 /// A node that told in the tail that an upload was applied as a version answers each later ticket for that version or an
 /// earlier one, as long as it neither goes down nor is restarted. Memory for the answer may be refused.
 pub fn fresh_tails_answer()
-    ensures { (config : Config) (start seats : ℕ → Seat) (before tail : History) (recovered : List Bool)
+    ensures { (config : AgreementConfig) (start seats : ℕ → UpOrDown) (before tail : History) (recovered : List Bool)
         (i j node number version : ℕ) (text : List ℕ) (upload : Upload) (given : EventResult)
         → Precedes config start before → ReachesFrom config start tail.sent tail.steps recovered seats
         → IsTextOf text upload → IsStep tail.steps i (AsksOutcome node text) (Outcome (applied number)) → i < j
@@ -103,11 +103,11 @@ pub fn fresh_tails_answer()
 /// A member is up, where the tail leaves it, exactly where both parts together show that it runs; and its prefix is the one
 /// that they show.
 pub fn joined_histories_show()
-    ensures up { (config : Config) (start seats : ℕ → Seat) (before tail : History) (recovered : List Bool) (node : ℕ)
+    ensures up { (config : AgreementConfig) (start seats : ℕ → UpOrDown) (before tail : History) (recovered : List Bool) (node : ℕ)
         → Precedes config start before → ReachesFrom config start tail.sent tail.steps recovered seats
         → node < config.members
         → ((views : Views) × (seats node ≡ IsUp views)) ↔ Runs node (joined before tail).steps }
-    ensures prefix { (config : Config) (start seats : ℕ → Seat) (before tail : History) (recovered : List Bool)
+    ensures prefix { (config : AgreementConfig) (start seats : ℕ → UpOrDown) (before tail : History) (recovered : List Bool)
         (node : ℕ) (views : Views) (values : List Value) → Precedes config start before
         → ReachesFrom config start tail.sent tail.steps recovered seats → node < config.members
         → seats node ≡ IsUp views

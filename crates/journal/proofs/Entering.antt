@@ -3,11 +3,11 @@ use Rattle.std.proofs.Common.{◌≡◌, ℕ, ◌<◌, Bool, if◌then◌else◌
 use Rattle.std.proofs.lemmas.Bool.{eq-eqb}
 use Rattle.std.proofs.lemmas.List.{map_push}
 use Rattle.node_parts.specs.ballots.specs.declared.message.Message.{Message}
-use Rattle.node_parts.specs.agreement_rules.specs.Views.{Config}
+use Rattle.node_parts.specs.agreement_rules.specs.Views.{AgreementConfig}
 use Rattle.node_parts.specs.histories.specs.Event.{node_of}
 use Rattle.node_parts.specs.histories.specs.History.{Step as HistoryStep}
-use Rattle.node_parts.specs.histories.specs.Following.{Seat, SeatGives, StepFollows, ReachesFrom, with_seat}
-use Rattle.node_parts.specs.histories.specs.Owning.{Entry, own, entries_of, OwnReaches}
+use Rattle.node_parts.specs.histories.specs.Following.{UpOrDown, NodeGives, StepFollows, ReachesFrom, with_seat}
+use Rattle.node_parts.specs.histories.specs.Owning.{OwnEntry, own, entries_of, OwnReaches}
 use Rattle.node_parts.specs.traces.specs.declared.step.Step.{Step}
 use Rattle.node_parts.specs.traces.specs.declared.config.Config.{Config as RunConfig}
 use Rattle.node_parts.specs.traces.specs.Told.{config_of, event_of, result_of, step_of, steps_of}
@@ -19,24 +19,24 @@ use Rattle.journal.specs.Journaled.{seats_in, Journaled, journaled, HasFollowed,
 -- ---- the laws that are cited
 
 abbrev pub StartsNowhere : Type 0
-StartsNowhere = (config : Config) (start : ℕ → Seat) → ReachesFrom config start [] [] [] start
+StartsNowhere = (config : AgreementConfig) (start : ℕ → UpOrDown) → ReachesFrom config start [] [] [] start
 
 abbrev pub StepsAlone : Type 0
-StepsAlone = (config : Config) (sent : List Message) (next : ℕ) (seats : ℕ → Seat) (step : HistoryStep) (recovered : Bool) (seat : Seat) → node_of step.event < config.members
-    → SeatGives config sent next recovered (seats (node_of step.event)) step.event step.result seat
+StepsAlone = (config : AgreementConfig) (sent : List Message) (next : ℕ) (seats : ℕ → UpOrDown) (step : HistoryStep) (recovered : Bool) (seat : UpOrDown) → node_of step.event < config.members
+    → NodeGives config sent next recovered (seats (node_of step.event)) step.event step.result seat
     → StepFollows config sent next seats step recovered (with_seat seats (node_of step.event) seat)
 
 abbrev pub OwnDecides : Type 0
-OwnDecides = (config : Config) (start : ℕ → Seat) (sent : List Message) (steps : List HistoryStep) (recovered : List Bool) (seats : ℕ → Seat) (node : ℕ) (seat : Seat) → node < config.members
+OwnDecides = (config : AgreementConfig) (start : ℕ → UpOrDown) (sent : List Message) (steps : List HistoryStep) (recovered : List Bool) (seats : ℕ → UpOrDown) (node : ℕ) (seat : UpOrDown) → node < config.members
     → ReachesFrom config start sent steps recovered seats → OwnReaches config (start node) (own node sent steps recovered) seat
     → ReachesFrom config start sent steps recovered (with_seat seats node seat)
 
 abbrev pub OwnLeaves : Type 0
-OwnLeaves = (config : Config) (start : ℕ → Seat) (sent : List Message) (steps : List HistoryStep) (recovered : List Bool) (seats : ℕ → Seat) (node : ℕ) → node < config.members
+OwnLeaves = (config : AgreementConfig) (start : ℕ → UpOrDown) (sent : List Message) (steps : List HistoryStep) (recovered : List Bool) (seats : ℕ → UpOrDown) (node : ℕ) → node < config.members
     → ReachesFrom config start sent steps recovered seats → OwnReaches config (start node) (own node sent steps recovered) (seats node)
 
 abbrev pub OwnGrows : Type 0
-OwnGrows = (config : Config) (start : ℕ → Seat) (sent more : List Message) (steps : List HistoryStep) (recovered : List Bool) (seats : ℕ → Seat) (step : HistoryStep) (was : Bool) (node : ℕ)
+OwnGrows = (config : AgreementConfig) (start : ℕ → UpOrDown) (sent more : List Message) (steps : List HistoryStep) (recovered : List Bool) (seats : ℕ → UpOrDown) (step : HistoryStep) (was : Bool) (node : ℕ)
     → node < config.members → ReachesFrom config start sent steps recovered seats
     → own node (sent ++ more) (steps ++ step ∷ []) (recovered ++ was ∷ []) ≡ own node sent steps recovered ++ entries_of node (sent ++ more) step was
 
@@ -53,7 +53,7 @@ starts nowhere config journal config_is sent_is steps_are recovered_is = (
 )
 
 -- likewise of steps that are kept, whichever log the journal knows
-pub starts_kept : StartsNowhere → (config : RunConfig) (start : List Seat) (kept : Kept) (steps : Recalled) (log outrun : Option (List Entry)) → kept.recalled ≡ steps
+pub starts_kept : StartsNowhere → (config : RunConfig) (start : List UpOrDown) (kept : Kept) (steps : Recalled) (log outrun : Option (List OwnEntry)) → kept.recalled ≡ steps
     → Tells steps.trace config [] [] → steps.recovered ≡ [] → HasFollowed (journaled start kept log outrun)
 starts_kept nowhere config start kept steps log outrun is tells none =
     starts nowhere config (journaled start kept log outrun)
@@ -64,18 +64,18 @@ starts_kept nowhere config start kept steps log outrun is tells none =
 
 -- ---- a step more
 
-own_seat : (seats : ℕ → Seat) (node : ℕ) (seat : Seat) → with_seat seats node seat node ≡ seat
+own_seat : (seats : ℕ → UpOrDown) (node : ℕ) (seat : UpOrDown) → with_seat seats node seat node ≡ seat
 own_seat seats node seat = ap (λ (b : Bool). if b then seat else seats node) (eq-eqb node node refl)
 
 -- the nodes before and behind it
-pub record Enters (journal : Journaled) (step : Step) (more : List Message) (recovered : Bool) (new : Seat) : Type 0 where
-  pub before : ℕ → Seat
-  pub behind : ℕ → Seat
+pub record Enters (journal : Journaled) (step : Step) (more : List Message) (recovered : Bool) (new : UpOrDown) : Type 0 where
+  pub before : ℕ → UpOrDown
+  pub behind : ℕ → UpOrDown
   pub reached : TraceReachesFrom (seats_in journal.start) journal.trace journal.recovered before
   pub follows : StepFollowsBehind journal.trace before step more recovered behind
   pub leaves : behind (node_of (event_of step.event)) ≡ new
 
-pub enters : StepsAlone → OwnDecides → (journal : Journaled) (step : Step) (more : List Message) (recovered : Bool) (old new : Seat)
+pub enters : StepsAlone → OwnDecides → (journal : Journaled) (step : Step) (more : List Message) (recovered : Bool) (old new : UpOrDown)
     → HasFollowed journal → IsNext journal step more recovered old new → Enters journal step more recovered new
 enters alone decides journal step more recovered old new followed next =
     let node = node_of (event_of step.event) in
@@ -87,7 +87,7 @@ enters alone decides journal step more recovered old new followed next =
       reached = decides config (seats_in journal.start) journal.trace.sent (steps_of journal.trace.steps) journal.recovered followed.0 node old next.member followed.1 next.led;
       follows = record {
         follows = alone config (journal.trace.sent ++ more) (length journal.trace.sent) seated (step_of step) recovered new next.member
-            (subst (λ (s : Seat). SeatGives config (journal.trace.sent ++ more) (length journal.trace.sent) recovered s (event_of step.event) (result_of step.result) new)
+            (subst (λ (s : UpOrDown). NodeGives config (journal.trace.sent ++ more) (length journal.trace.sent) recovered s (event_of step.event) (result_of step.result) new)
             (sym (own_seat followed.0 node old)) next.gives);
         asked = next.asked;
         counted = next.counted;
@@ -112,11 +112,11 @@ own_grows grows old next step more recovered node followed entry member =
     (grows config (seats_in old.start) old.trace.sent more (steps_of old.trace.steps) old.recovered followed.0 (step_of step) recovered node member followed.1)))
 
 -- and they leave it as the step does
-pub own_leaves : OwnLeaves → (old next : Journaled) (step : Step) (more : List Message) (recovered : Bool) (new : Seat) (enters : Enters old step more recovered new)
+pub own_leaves : OwnLeaves → (old next : Journaled) (step : Step) (more : List Message) (recovered : Bool) (new : UpOrDown) (enters : Enters old step more recovered new)
     → next.trace.config ≡ old.trace.config → TraceReachesFrom (seats_in old.start) next.trace next.recovered enters.behind → node_of (event_of step.event) < old.trace.config.members
     → OwnReaches (config_of old.trace.config) (seats_in old.start (node_of (event_of step.event))) (own_in (node_of (event_of step.event)) next) new
 own_leaves leaves old next step more recovered new enters config_is reached member =
     let node = node_of (event_of step.event) in
-    subst (λ (s : Seat). OwnReaches (config_of old.trace.config) (seats_in old.start node) (own_in node next) s) enters.leaves
+    subst (λ (s : UpOrDown). OwnReaches (config_of old.trace.config) (seats_in old.start node) (own_in node next) s) enters.leaves
     (leaves (config_of old.trace.config) (seats_in old.start) next.trace.sent (steps_of next.trace.steps) next.recovered enters.behind node member
     (subst (λ (c : RunConfig). ReachesFrom (config_of c) (seats_in old.start) next.trace.sent (steps_of next.trace.steps) next.recovered enters.behind) config_is reached))

@@ -10,9 +10,9 @@ use Rattle.node_parts.specs.histories.specs.Event as events
 use Rattle.node_parts.specs.histories.specs.EventResult as results
 use Rattle.node_parts.specs.histories.specs.EventResult.{EventResult as HistoryResult}
 use Rattle.node_parts.specs.histories.specs.History.{Step as HistoryStep, History}
-use Rattle.node_parts.specs.histories.specs.Following.{Seat, Follows, ReachesFrom}
+use Rattle.node_parts.specs.histories.specs.Following.{UpOrDown, Follows, ReachesFrom}
 use Rattle.node_parts.specs.safe_histories.specs.Learning.{brings_up, brings_down}
-use Rattle.node_parts.specs.agreement_rules.specs.Views.{Config}
+use Rattle.node_parts.specs.agreement_rules.specs.Views.{AgreementConfig}
 use Rattle.node_parts.specs.safe_histories.specs.Safe.{IsStep, SameTicketSameBytes, AcknowledgedStandsOnce}
 use Rattle.node_parts.specs.joined_histories.specs.Joined.{Precedes}
 use Rattle.node_parts.specs.node_events.specs.declared.event.Event.{Event}
@@ -40,7 +40,7 @@ pub follows : (journal : Journaled) → journal.start ≡ [] → HasFollowed jou
 follows journal nothing followed = record {
   recovered = journal.recovered;
   seats = followed.0;
-  reached = subst (λ (start : List Seat). TraceReachesFrom (seats_in start) journal.trace journal.recovered followed.0) nothing followed.1;
+  reached = subst (λ (start : List UpOrDown). TraceReachesFrom (seats_in start) journal.trace journal.recovered followed.0) nothing followed.1;
 }
 
 -- ---- a receipt as a step of the history
@@ -81,7 +81,7 @@ are_worth trace one other safe is too = record {
 -- ---- a node that goes on answers
 
 abbrev pub Fresh : Type 0
-Fresh = (config : Config) (start seats : ℕ → Seat) (before tail : History) (recovered : List Bool)
+Fresh = (config : AgreementConfig) (start seats : ℕ → UpOrDown) (before tail : History) (recovered : List Bool)
     (i j node number version : ℕ) (text : List ℕ) (upload : Upload) (given : HistoryResult)
     → Precedes config start before → ReachesFrom config start tail.sent tail.steps recovered seats → IsTextOf text upload
     → IsStep tail.steps i (events.Outcome node text) (results.Outcome (applied number)) → i < j

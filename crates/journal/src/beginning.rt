@@ -7,9 +7,9 @@ use std::marker::Brand;
 /// makes a journal picks it with the name.
 pub trait Beginning: Naming {
     ghost use Rattle.std.specs.Prelude.{List};
-    ghost use Rattle.node_parts.specs.histories.specs.Following.{Seat};
+    ghost use Rattle.node_parts.specs.histories.specs.Following.{UpOrDown};
 
-    ghost start: { List Seat };
+    ghost start: { List UpOrDown };
 }
 
 /// The name that a caller has who picks none: nodes start with nothing.

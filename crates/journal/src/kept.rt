@@ -2,7 +2,7 @@
 
 ghost use Rattle.std.specs.Prelude.{◌≡◌, ◌↔◌, ℕ, Bool, IsTrue, IsSome, List, ◌∷◌, ◌++◌, [], true, false, length, OnOk, vec_len};
 ghost use Rattle.std.specs.Option.{IfSome, option_map};
-ghost use Rattle.node_parts.specs.histories.specs.Following.{Seat};
+ghost use Rattle.node_parts.specs.histories.specs.Following.{UpOrDown};
 ghost use Rattle.node_parts.specs.traces.specs.Traced.{TraceReachesFrom, StepFollowsBehind};
 ghost use Rattle.journal.specs.Recalled.{held_at, HoldsTheLast, RecallsAsBefore, RecallsMore, HasRoomToRecall};
 
@@ -126,7 +126,7 @@ impl Kept {
         requires { HasRoomToRecall self.old.recalled (vec_len more) }
         ensures more { RecallsMore self.old.recalled step more.items recovered self.new.recalled }
         ensures whole { self.new.whole ≡ self.old.whole }
-        ensures reaches { (start : ℕ → Seat) (was : List Bool) (seats new : ℕ → Seat)
+        ensures reaches { (start : ℕ → UpOrDown) (was : List Bool) (seats new : ℕ → UpOrDown)
             → TraceReachesFrom start self.old.recalled.trace was seats
             → StepFollowsBehind self.old.recalled.trace seats step more.items recovered new
             → TraceReachesFrom start self.new.recalled.trace (was ++ recovered ∷ []) new }

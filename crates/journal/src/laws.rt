@@ -9,7 +9,7 @@ ghost use Rattle.node_parts.specs.histories.specs.Texts.{IsTextOf};
 ghost use Rattle.node_parts.specs.traces.specs.declared.step.Step.{Step as StepSpec};
 ghost use Rattle.node_parts.specs.histories.specs.History.{History};
 ghost use Rattle.node_parts.specs.histories.specs.Following.{Follows};
-ghost use Rattle.node_parts.specs.histories.specs.Owning.{Entry};
+ghost use Rattle.node_parts.specs.histories.specs.Owning.{OwnEntry};
 ghost use Rattle.node_parts.specs.safe_histories.specs.Safe.{IsSafe};
 ghost use Rattle.node_parts.specs.joined_histories.specs.Joined.{Precedes};
 ghost use Rattle.node_parts.specs.traces.specs.Told.{config_of};
@@ -64,7 +64,7 @@ pub fn whole_journals_agree()
 /// Behind an entry a journal knows its log no longer only where it has seen it go on: what it has seen begins with the log that it
 /// knew, and is longer, unless that was as long as a log can be.
 pub fn a_log_is_lost_only_where_it_goes_on()
-    ensures { (log : List Entry) (outrun seen : Option (List Entry)) (more : Option Entry)
+    ensures { (log : List OwnEntry) (outrun seen : Option (List OwnEntry)) (more : Option OwnEntry)
         → GoesOn (Some log) outrun more None seen
-        → (now : List Entry) × (seen ≡ Some now) × IsPrefix log now × ((length log < length now) ⊎ (2 ^ 62 ≤ length log)) }
+        → (now : List OwnEntry) × (seen ≡ Some now) × IsPrefix log now × ((length log < length now) ⊎ (2 ^ 62 ≤ length log)) }
 {}

@@ -19,10 +19,10 @@ pub struct OwnEntry {
 }
 
 impl Model for OwnEntry {
-    ghost use Rattle.node_parts.specs.histories.specs.Owning.{Entry};
+    ghost use Rattle.node_parts.specs.histories.specs.Owning.{OwnEntry};
     ghost use Rattle.node_parts.specs.traces.specs.Told.{step_of};
 
-    ghost Value = { Entry };
+    ghost Value = { OwnEntry };
 
     ghost view = { λ e. record {
       step = step_of e.step;

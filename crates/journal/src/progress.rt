@@ -18,10 +18,10 @@ pub(crate) struct Progress<J: Naming> {
 
 impl<J: Naming> Model for Progress<J> {
     ghost use Rattle.std.specs.Prelude.{List};
-    ghost use Rattle.node_parts.specs.histories.specs.Owning.{Entry};
+    ghost use Rattle.node_parts.specs.histories.specs.Owning.{OwnEntry};
     ghost use Rattle.journal.specs.Logged.{AreCounted};
 
-    ghost Value = { List Entry };
+    ghost Value = { List OwnEntry };
 
     ghost view = { λ p. p.reached };
 

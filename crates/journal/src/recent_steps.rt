@@ -2,7 +2,7 @@
 
 ghost use Rattle.std.specs.Prelude.{◌≡◌, ℕ, ◌^◌, ◌<◌, ◌≤◌, Bool, List, [], ◌∷◌, ◌++◌, length, OnOk, IfOk, vec_len};
 ghost use Rattle.std.specs.Option.{option_map};
-ghost use Rattle.node_parts.specs.histories.specs.Following.{Seat};
+ghost use Rattle.node_parts.specs.histories.specs.Following.{UpOrDown};
 ghost use Rattle.node_parts.specs.traces.specs.Traced.{Tells, TellsMore, HasRoomFor, TraceReachesFrom, StepFollowsBehind};
 ghost use Rattle.journal.specs.Recalled.{held_at, HoldsTheLast, RecallsMore, HasRoomToRecall};
 
@@ -122,7 +122,7 @@ impl RecentSteps {
     pub(crate) fn push(&mut self, step: Step, more: Vec<Message>, recovered: bool)
         requires { HasRoomToRecall self.old (vec_len more) }
         ensures more { RecallsMore self.old step more.items recovered self.new }
-        ensures reaches { (start : ℕ → Seat) (was : List Bool) (seats new : ℕ → Seat)
+        ensures reaches { (start : ℕ → UpOrDown) (was : List Bool) (seats new : ℕ → UpOrDown)
             → TraceReachesFrom start self.old.trace was seats
             → StepFollowsBehind self.old.trace seats step more.items recovered new
             → TraceReachesFrom start self.new.trace (was ++ recovered ∷ []) new }

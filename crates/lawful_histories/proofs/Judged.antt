@@ -11,7 +11,6 @@ use Rattle.lawful_histories.specs.Lawful.{Said, SaidBefore, AcceptsWhatWasPropos
 use Rattle.lawful_histories.specs.Judging.{PromisedAtMost, PromisedBelow, IsReported, HasValueAt, IsWithin, PromisesWithin, HasPromised, LetsPropose, MayPropose, HasAccepted, ShowsChosen, MayDecide, MayReport, MayBeSaid, AllMayBeSent}
 use Rattle.lawful_histories.proofs.Majorities.{most_weaker, most_with, majorities_meet}
 use Rattle.lawful_histories.proofs.Places.{blank, within_sent, said_by, said_there, any_before, before_any, all_before, before_all, any_said, said_any}
-use Rattle.lawful_histories.proofs.Slots.{said_of_sent, sent_of_said}
 
 not_below : (b : Ballot) → IsBelow b b → ⊥
 not_below b (inl lt) = omega (arith, lt)
@@ -264,8 +263,7 @@ lawful_from_judged n sent h s = slot_from_each n sent s each
     each : EachMayBeSaid n sent s
     each k x said =
         let lt = within_sent sent s k x said in
-        subst (λ (y : Saying). MayBeSaid n s (take k sent) y) (said_by sent s k blank x said) (said_of_sent n (take k sent) (get_or sent k blank) s (h k blank lt))
+        subst (λ (y : Saying). MayBeSaid n s (take k sent) y) (said_by sent s k blank x said) (h k blank lt s)
 
 pub judged_from_lawful : (n : ℕ) (sent : List Message) → IsLawful n sent → AllMayBeSent n sent
-judged_from_lawful n sent lawful k d lt =
-    sent_of_said n (take k sent) (get_or sent k d) (λ s. each_from_slot n sent s (lawful s) k (says (get_or sent k d) s) (said_there sent s k d lt))
+judged_from_lawful n sent lawful k d lt s = each_from_slot n sent s (lawful s) k (says (get_or sent k d) s) (said_there sent s k d lt)

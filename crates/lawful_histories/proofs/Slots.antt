@@ -1,8 +1,8 @@
--- A message follows those before it exactly where each slot lets it: on a slot that it is not about it says nothing.
+-- A message follows those before it exactly where its own slot lets it: on a slot that it is not about it says nothing.
 use Rattle.std.proofs.Common.{◌≡◌, ℕ, Bool, true, false, cond, ◌==◌, List, refl, subst, eq-eqb, arith}
 use Rattle.std.proofs.lemmas.Bool.Decides.{nat_tests}
 use Rattle.ballots.specs.declared.message.Message.{Message}
-use Rattle.lawful_histories.specs.Saying.{Saying, Silent, of_one, saying, says}
+use Rattle.lawful_histories.specs.Saying.{Saying, Silent, of_one, saying}
 use Rattle.lawful_histories.specs.Judging.{MayBeSaid, MayBeSent}
 
 module _ (n : ℕ) (before : List Message) where
@@ -16,8 +16,8 @@ module _ (n : ℕ) (before : List Message) where
   slot_at : (slot : ℕ) (x : Saying) → MayBeSaid n slot before (of_one slot slot x) → MayBeSaid n slot before x
   slot_at slot x h = subst (λ (t : Bool). MayBeSaid n slot before (cond t x Silent)) (eq-eqb slot slot refl) h
 
-  pub said_of_sent : (m : Message) (s : ℕ) → MayBeSent n before m → MayBeSaid n s before (says m s)
-  said_of_sent m s h = at_slot m.slot s (saying m.sender m.body) h
+  pub sent_of_own : (m : Message) → MayBeSaid n m.slot before (saying m.sender m.body) → MayBeSent n before m
+  sent_of_own m h s = at_slot m.slot s (saying m.sender m.body) h
 
-  pub sent_of_said : (m : Message) → ((s : ℕ) → MayBeSaid n s before (says m s)) → MayBeSent n before m
-  sent_of_said m h = slot_at m.slot (saying m.sender m.body) (h m.slot)
+  pub own_of_sent : (m : Message) → MayBeSent n before m → MayBeSaid n m.slot before (saying m.sender m.body)
+  own_of_sent m h = slot_at m.slot (saying m.sender m.body) (h m.slot)

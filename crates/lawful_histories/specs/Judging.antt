@@ -6,7 +6,7 @@ use Rattle.ballots.specs.Ballot.{Ballot, IsBelow}
 use Rattle.ballots.specs.Majority.{NodeSet, contains}
 use Rattle.ballots.specs.declared.value.Value.{Value}
 use Rattle.ballots.specs.declared.message.Message.{Message}
-use Rattle.lawful_histories.specs.Saying.{Report, Saying, Silent, Prepare, Promise, Accept, Accepted, Decided, saying, says}
+use Rattle.lawful_histories.specs.Saying.{Report, Saying, Silent, Prepare, Promise, Accept, Accepted, Decided, says}
 use Rattle.lawful_histories.specs.Majorities.{MajorityOf}
 use Rattle.lawful_histories.specs.Saying.{IsUpTo}
 
@@ -117,9 +117,9 @@ MayBeSaid n s before (Accept b v) = AllSaid s before (HasValueAt b v) × MayProp
 MayBeSaid n s before (Accepted a b v) = AnySaid s before (Accept b v) × AllSaid s before (PromisedAtMost a b)
 MayBeSaid n s before (Decided v) = MayDecide n s before v
 
--- the messages before let this one follow
+-- the messages before let this one follow: of each slot they let be said what it says
 abbrev pub MayBeSent : ℕ → List Message → Message → Type 0
-MayBeSent n before m = MayBeSaid n m.slot before (saying m.sender m.body)
+MayBeSent n before m = (s : ℕ) → MayBeSaid n s before (says m s)
 
 -- so it is of the messages up to a place, and of all
 abbrev pub AllMayBeSentUpTo : ℕ → List Message → ℕ → Type 0

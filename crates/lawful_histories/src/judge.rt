@@ -2,7 +2,7 @@
 
 ghost use Rattle.std.specs.Prelude.{◌↔◌, ℕ, IsTrue};
 ghost use Rattle.std.specs.List.{Any};
-ghost use Rattle.lawful_histories.specs.Saying.{says, Accept, Decided};
+ghost use Rattle.lawful_histories.specs.Saying.{saying, says, Accept, Decided};
 ghost use Rattle.lawful_histories.specs.Judging.{AnySaid, AllSaid, PromisedAtMost, PromisedBelow, IsReported};
 ghost use Rattle.lawful_histories.specs.Judging.{HasValueAt, IsSetOf, HasPromised, HasAccepted, MostPromise};
 ghost use Rattle.lawful_histories.specs.Judging.{LetsPropose, MayPropose, MostAccepted, ShowsChosen, MayDecide};
@@ -14,9 +14,16 @@ use crate::sayings::{
 };
 use ballots::{Acceptance, Ballot, Body, Members, Message, NodeId, NodeSet, Slot, Value};
 
-/// Whether the messages before let this one follow.
+/// Whether the messages before let this one follow: of each slot they let be said what it says.
 pub(crate) fn may_be_sent(members: Members, before: &[Message], message: &Message) -> bool
     ensures { IsTrue result ↔ MayBeSent members before.now message.now }
+{
+    may_be_said(members, before, message)
+}
+
+// Whether they let be said what it says of its own slot. On all others it is silent.
+fn may_be_said(members: Members, before: &[Message], message: &Message) -> bool
+    ensures { IsTrue result ↔ MayBeSaid members message.now.slot before.now (saying message.now.sender message.now.body) }
 {
     let slot = message.slot;
     match &message.body {

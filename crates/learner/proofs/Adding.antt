@@ -10,7 +10,7 @@ use Rattle.ballots.specs.Majority.{IsMajority}
 use Rattle.ballots.specs.Slots.{OthersStay}
 use Rattle.ballots.specs.declared.value.Value.{Value}
 use Rattle.ballots.proofs.CallerLemmas.{tally_same}
-use Rattle.learner.specs.Calls.{Call, slot_of, is_decision_for, has_voted, IsChosenOrDecided, IsLearned, Learns}
+use Rattle.learner.specs.Calls.{LearnerCall, slot_of, is_decision_for, has_voted, IsChosenOrDecided, IsLearned, Learns}
 use Rattle.learner.specs.State.{LearnerState}
 use Rattle.learner.specs.Learned.{HasLearned, IsSame}
 use Rattle.learner.specs.Changes.{LearnsNow, DecidedNow}
@@ -20,7 +20,7 @@ use Rattle.learner.proofs.OneValue.{one_value, learned_more, settled_of_learned,
 
 -- ---- what settles nothing makes nothing learned
 
-pub settled_apart : (n : ℕ) (calls : List Call) (c : Call) (slot : ℕ) → IsApart n slot c → IsChosenOrDecided n (calls ++ c ∷ []) slot → IsChosenOrDecided n calls slot
+pub settled_apart : (n : ℕ) (calls : List LearnerCall) (c : LearnerCall) (slot : ℕ) → IsApart n slot c → IsChosenOrDecided n (calls ++ c ∷ []) slot → IsChosenOrDecided n calls slot
 settled_apart n calls c slot apart (inl told) =
     inl (sym (or-false (list_any (is_decision_for slot) calls))
     ∙ ap (λ (x : Bool). list_any (is_decision_for slot) calls || x) (sym (or-false (is_decision_for slot c) ∙ apart.decision))
@@ -28,7 +28,7 @@ settled_apart n calls c slot apart (inl told) =
 settled_apart n calls c slot apart (inr chosen) =
     inr (chosen.0, subst (IsMajority n) (tally_same n (has_voted (calls ++ c ∷ []) slot chosen.0) (has_voted calls slot chosen.0) (votes_apart n calls c slot apart chosen.0)) chosen.1)
 
-pub learned_back : (n : ℕ) (calls : List Call) (c : Call) (slot : ℕ) (v : Value) → (IsChosenOrDecided n (calls ++ c ∷ []) slot → IsChosenOrDecided n calls slot)
+pub learned_back : (n : ℕ) (calls : List LearnerCall) (c : LearnerCall) (slot : ℕ) (v : Value) → (IsChosenOrDecided n (calls ++ c ∷ []) slot → IsChosenOrDecided n calls slot)
     → IsLearned n (calls ++ c ∷ []) slot v → IsLearned n calls slot v
 learned_back n calls c slot v back learned =
     let was = learned_of_settled n calls slot (back (settled_of_learned n (calls ++ c ∷ []) slot v learned)) in
@@ -43,10 +43,10 @@ none_held (Some v) free = absurd (free v refl)
 same_some : (v w : Value) → Some v ≡ Some w → v ≡ w
 same_some v w e = cc
 
-abbrev Has : ℕ → List Call → (ℕ → Option Value) → ℕ → Type 0
+abbrev Has : ℕ → List LearnerCall → (ℕ → Option Value) → ℕ → Type 0
 Has n calls at slot = (v : Value) → at slot ≡ Some v ↔ IsLearned n calls slot v
 
-adds_here : (n : ℕ) (calls : List Call) (c : Call) (slot : ℕ) (told : Option Value) (old new : ℕ → Option Value) → Has n calls old slot
+adds_here : (n : ℕ) (calls : List LearnerCall) (c : LearnerCall) (slot : ℕ) (told : Option Value) (old new : ℕ → Option Value) → Has n calls old slot
     → Learns n calls c slot told → new slot ≡ option_or (old slot) told → Has n (calls ++ c ∷ []) new slot
 adds_here n calls c slot None old new has back is v =
     let same : new slot ≡ old slot = is ∙ or_none (old slot) in (
@@ -60,14 +60,14 @@ adds_here n calls c slot (Some w) old new has learns is v =
       λ learned. here ∙ ap Some (one_value n (calls ++ c ∷ []) slot w v learns.1 learned),
     )
 
-adds_elsewhere : (n : ℕ) (calls : List Call) (c : Call) (slot : ℕ) (old new : ℕ → Option Value) → IsApart n slot c → Has n calls old slot
+adds_elsewhere : (n : ℕ) (calls : List LearnerCall) (c : LearnerCall) (slot : ℕ) (old new : ℕ → Option Value) → IsApart n slot c → Has n calls old slot
     → new slot ≡ old slot → Has n (calls ++ c ∷ []) new slot
 adds_elsewhere n calls c slot old new apart has same v = (
   λ e. learned_more n calls (c ∷ []) slot v ((has v).0 (sym same ∙ e)),
   λ learned. same ∙ (has v).1 (learned_back n calls c slot v (settled_apart n calls c slot apart) learned),
 )
 
-pub call_adds : (n : ℕ) (calls : List Call) (c : Call) (told : Option Value) (old new : ℕ → Option Value) → HasLearned n calls old
+pub call_adds : (n : ℕ) (calls : List LearnerCall) (c : LearnerCall) (told : Option Value) (old new : ℕ → Option Value) → HasLearned n calls old
     → Learns n calls c (slot_of c) told → new (slot_of c) ≡ option_or (old (slot_of c)) told → OthersStay old new (slot_of c)
     → HasLearned n (calls ++ c ∷ []) new
 call_adds n calls c told old new has learns here others slot = elim (cases_eq slot (slot_of c)) as (λ _. Has n (calls ++ c ∷ []) new slot) [

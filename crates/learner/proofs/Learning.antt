@@ -7,7 +7,7 @@ use Rattle.ballots.specs.Ballot.{Ballot}
 use Rattle.ballots.specs.Majority.{tally, IsMajority}
 use Rattle.ballots.specs.declared.value.Value.{Value}
 use Rattle.ballots.proofs.CallerLemmas.{tally_same}
-use Rattle.learner.specs.Calls.{Call, Accepted, Decided, slot_of, is_vote_of, has_voted, first_counted, IsChosenOrDecided, IsLearned}
+use Rattle.learner.specs.Calls.{LearnerCall, Accepted, Decided, slot_of, is_vote_of, has_voted, first_counted, IsChosenOrDecided, IsLearned}
 use Rattle.learner.specs.State.{LearnerState, has_vote, tally_in, decided_at, tally_at, voted_at, first_at}
 use Rattle.learner.specs.Learned.{StateAfter, IsSame}
 use Rattle.learner.specs.Changes.{Counts, Puts, IsChosenWith}
@@ -15,7 +15,7 @@ use Rattle.learner.proofs.Settling.{IsApart, other_apart, stranger_apart, votes_
 use Rattle.learner.proofs.OneValue.{learned_more, learned_by_decision, learned_by_majority, settled_of_learned, unsettled_at_first}
 
 -- look-ups that answer as before
-pub same_learnt : (n : ℕ) (calls : List Call) (old new : LearnerState) → IsSame old new → StateAfter n calls old → StateAfter n calls new
+pub same_learnt : (n : ℕ) (calls : List LearnerCall) (old new : LearnerState) → IsSame old new → StateAfter n calls old → StateAfter n calls new
 same_learnt n calls old new same l = record {
   members = same.members ∙ l.members;
   learned = λ slot value e. l.learned slot value (sym (same.decided slot) ∙ e);
@@ -26,7 +26,7 @@ same_learnt n calls old new same l = record {
 }
 
 -- what counts for no slot that is not learned changes nothing
-pub learnt_ignores : (n : ℕ) (calls : List Call) (c : Call) (h : LearnerState) → StateAfter n calls h → ((slot : ℕ) → decided_at h slot ≡ None → IsApart n slot c)
+pub learnt_ignores : (n : ℕ) (calls : List LearnerCall) (c : LearnerCall) (h : LearnerState) → StateAfter n calls h → ((slot : ℕ) → decided_at h slot ≡ None → IsApart n slot c)
     → StateAfter n (calls ++ c ∷ []) h
 learnt_ignores n calls c h l apart = record {
   members = l.members;
@@ -38,17 +38,17 @@ learnt_ignores n calls c h l apart = record {
 }
 
 -- the call's slot has learned
-pub learnt_over_learned : (n : ℕ) (calls : List Call) (c : Call) (h : LearnerState) → StateAfter n calls h → (decided_at h (slot_of c) ≡ None → ⊥) → StateAfter n (calls ++ c ∷ []) h
+pub learnt_over_learned : (n : ℕ) (calls : List LearnerCall) (c : LearnerCall) (h : LearnerState) → StateAfter n calls h → (decided_at h (slot_of c) ≡ None → ⊥) → StateAfter n (calls ++ c ∷ []) h
 learnt_over_learned n calls c h l has =
     learnt_ignores n calls c h l (λ slot e. other_apart n slot c (λ (same : slot ≡ slot_of c). has (subst (λ (s : ℕ). decided_at h s ≡ None) same e)))
 
 -- it is told by a node that is no member
-pub learnt_stranger : (n : ℕ) (calls : List Call) (a s : ℕ) (b : Ballot) (v : Value) (h : LearnerState) → StateAfter n calls h → (a < h.members → ⊥) → StateAfter n (calls ++ Accepted a s b v ∷ []) h
+pub learnt_stranger : (n : ℕ) (calls : List LearnerCall) (a s : ℕ) (b : Ballot) (v : Value) (h : LearnerState) → StateAfter n calls h → (a < h.members → ⊥) → StateAfter n (calls ++ Accepted a s b v ∷ []) h
 learnt_stranger n calls a s b v h l stranger =
     learnt_ignores n calls (Accepted a s b v) h l (λ slot e. stranger_apart n slot a s b v (λ lt. stranger (omega (arith, lt, l.members))))
 
 -- the slot learns this value
-module _ (n : ℕ) (calls : List Call) (c : Call) (old new : LearnerState) (value : Value) (l : StateAfter n calls old) (puts : Puts old new (slot_of c) value)
+module _ (n : ℕ) (calls : List LearnerCall) (c : LearnerCall) (old new : LearnerState) (value : Value) (l : StateAfter n calls old) (puts : Puts old new (slot_of c) value)
     (learned : IsLearned n (calls ++ c ∷ []) (slot_of c) value) where
   is_other : (slot : ℕ) → decided_at new slot ≡ None → slot ≢ slot_of c
   is_other slot e same = absurd (some_none (sym puts.here ∙ sym (ap (decided_at new) same) ∙ e))
@@ -91,14 +91,14 @@ module _ (n : ℕ) (calls : List Call) (c : Call) (old new : LearnerState) (valu
         ∙ l.firsts slot b (was_none slot e) ∙ sym (first_apart n calls c slot (other_apart n slot c (is_other slot e)) b);
   }
 
-pub learnt_decides : (n : ℕ) (calls : List Call) (slot : ℕ) (value : Value) (old new : LearnerState) → StateAfter n calls old → decided_at old slot ≡ None → Puts old new slot value
+pub learnt_decides : (n : ℕ) (calls : List LearnerCall) (slot : ℕ) (value : Value) (old new : LearnerState) → StateAfter n calls old → decided_at old slot ≡ None → Puts old new slot value
     → StateAfter n (calls ++ Decided slot value ∷ []) new
 learnt_decides n calls slot value old new l none puts =
     learnt_puts n calls (Decided slot value) old new value l puts (learned_by_decision n calls slot value (l.unsettled slot none))
 
 -- a member's vote, at a slot that has not learned
-module _ (n : ℕ) (calls : List Call) (a slot : ℕ) (b : Ballot) (v : Value) (old : LearnerState) (l : StateAfter n calls old) (none : decided_at old slot ≡ None) where
-  abbrev told : Call
+module _ (n : ℕ) (calls : List LearnerCall) (a slot : ℕ) (b : Ballot) (v : Value) (old : LearnerState) (l : StateAfter n calls old) (none : decided_at old slot ≡ None) where
+  abbrev told : LearnerCall
   told = Accepted a slot b v
 
   -- the majority that the learner counts is that of the calls
@@ -169,7 +169,7 @@ module _ (n : ℕ) (calls : List Call) (a slot : ℕ) (b : Ballot) (v : Value) (
 -- ---- calls that the learner passes over
 
 -- it is told by no member, or the slot has learned
-pub learnt_closed : (n : ℕ) (calls : List Call) (a s : ℕ) (b : Ballot) (v : Value) (h : LearnerState) → StateAfter n calls h
+pub learnt_closed : (n : ℕ) (calls : List LearnerCall) (a s : ℕ) (b : Ballot) (v : Value) (h : LearnerState) → StateAfter n calls h
     → ((a < h.members) × (decided_at h s ≡ None) → ⊥) → StateAfter n (calls ++ Accepted a s b v ∷ []) h
 learnt_closed n calls a s b v h l closed = elim (cases_lt a h.members) [
   | inl lt ↦ learnt_over_learned n calls (Accepted a s b v) h l (λ none. closed (lt, none))
@@ -177,7 +177,7 @@ learnt_closed n calls a s b v h l closed = elim (cases_lt a h.members) [
 ]
 
 -- it settles nothing
-pub settles_nothing : (n : ℕ) (calls more : List Call) (slot : ℕ) (h : LearnerState) → StateAfter n calls h → StateAfter n more h → IsChosenOrDecided n more slot → IsChosenOrDecided n calls slot
+pub settles_nothing : (n : ℕ) (calls more : List LearnerCall) (slot : ℕ) (h : LearnerState) → StateAfter n calls h → StateAfter n more h → IsChosenOrDecided n more slot → IsChosenOrDecided n calls slot
 settles_nothing n calls more slot h l m settled = by (decided_at h slot) refl
   where
     by : (o : Option Value) → decided_at h slot ≡ o → IsChosenOrDecided n calls slot

@@ -11,7 +11,7 @@ use Rattle.ballots.specs.Majority.{NodeSet, contains, members_in, tally, IsMajor
 use Rattle.ballots.specs.declared.value.Value.{Value}
 use Rattle.ballots.proofs.CallerLemmas.{same_ballot_is, tally_same, majority_same}
 use Rattle.learner.specs.declared.tally.Tally.{Tally}
-use Rattle.learner.specs.Calls.{Call, Accepted, is_vote_of, first_counted}
+use Rattle.learner.specs.Calls.{LearnerCall, Accepted, is_vote_of, first_counted}
 use Rattle.learner.specs.State.{LearnerState, Tallies, tally_in, has_vote, decided_at, tally_at, voted_at, first_at, HasRoomForTally}
 use Rattle.learner.specs.Learned.{IsSame}
 use Rattle.learner.specs.Changes.{Counts, CountsIn, Drops, Puts, IsChosenWith, LearnsNow}
@@ -117,7 +117,7 @@ module _ (old new : LearnerState) (a slot : ℕ) (b : Ballot) (v : Value) (was n
     (before : get nat_eq old.tallies slot ≡ Some was) (after : get nat_eq new.tallies slot ≡ Some now)
     (others : (s : ℕ) → s ≢ slot → get nat_eq new.tallies s ≡ get nat_eq old.tallies s)
     (here : CountsIn (tally_in was b) (tally_in now b) a v) (apart : (c : Ballot) → is_same_ballot b c ≡ false → tally_in now c ≡ tally_in was c) where
-  abbrev told : Call
+  abbrev told : LearnerCall
   told = Accepted a slot b v
 
   at_old : (c : Ballot) → tally_at old slot c ≡ tally_in was c

@@ -11,16 +11,16 @@ use Rattle.ballots.specs.Ballot.{Ballot, is_same_ballot}
 use Rattle.ballots.specs.Majority.{tally, IsMajority}
 use Rattle.ballots.specs.declared.value.Value.{Value}
 use Rattle.ballots.proofs.CallerLemmas.{same_ballot_is, tally_more, tally_same, some_member}
-use Rattle.learner.specs.Calls.{Call, Accepted, Decided, value_in, slot_of, is_decision_for, is_vote_of, is_counted, has_voted, first_counted, IsChosenOrDecided}
+use Rattle.learner.specs.Calls.{LearnerCall, Accepted, Decided, value_in, slot_of, is_decision_for, is_vote_of, is_counted, has_voted, first_counted, IsChosenOrDecided}
 
 -- ---- one more call
 
-pub votes_with : (calls : List Call) (c : Call) (slot : ℕ) (b : Ballot) (member : ℕ)
+pub votes_with : (calls : List LearnerCall) (c : LearnerCall) (slot : ℕ) (b : Ballot) (member : ℕ)
     → has_voted (calls ++ c ∷ []) slot b member ≡ (has_voted calls slot b member || is_vote_of member slot b c)
 votes_with calls c slot b member =
     list_any-append (is_vote_of member slot b) calls (c ∷ []) ∙ ap (λ (x : Bool). has_voted calls slot b member || x) (or-false (is_vote_of member slot b c))
 
-map_or : (o p : Option Call) → option_map value_in (option_or o p) ≡ option_or (option_map value_in o) (option_map value_in p)
+map_or : (o p : Option LearnerCall) → option_map value_in (option_or o p) ≡ option_or (option_map value_in o) (option_map value_in p)
 map_or None p = refl
 map_or (Some c) p = refl
 
@@ -28,20 +28,20 @@ pub or_none : (o : Option Value) → option_or o None ≡ o
 or_none None = refl
 or_none (Some v) = refl
 
-pub first_with : (n : ℕ) (calls : List Call) (c : Call) (slot : ℕ) (b : Ballot)
+pub first_with : (n : ℕ) (calls : List LearnerCall) (c : LearnerCall) (slot : ℕ) (b : Ballot)
     → first_counted n (calls ++ c ∷ []) slot b ≡ option_or (first_counted n calls slot b) (first_counted n (c ∷ []) slot b)
 first_with n calls c slot b =
     ap (option_map value_in) (find-append (is_counted n slot b) calls (c ∷ [])) ∙ map_or (find (is_counted n slot b) calls) (find (is_counted n slot b) (c ∷ []))
 
 -- the first value of one call alone
-pub first_alone : (n slot : ℕ) (b : Ballot) (c : Call) → is_counted n slot b c ≡ true → first_counted n (c ∷ []) slot b ≡ Some (value_in c)
+pub first_alone : (n slot : ℕ) (b : Ballot) (c : LearnerCall) → is_counted n slot b c ≡ true → first_counted n (c ∷ []) slot b ≡ Some (value_in c)
 first_alone n slot b c counted = ap (λ (x : Bool). option_map value_in (cond x (Some c) None)) counted
 
-pub none_alone : (n slot : ℕ) (b : Ballot) (c : Call) → is_counted n slot b c ≡ false → first_counted n (c ∷ []) slot b ≡ None
+pub none_alone : (n slot : ℕ) (b : Ballot) (c : LearnerCall) → is_counted n slot b c ≡ false → first_counted n (c ∷ []) slot b ≡ None
 none_alone n slot b c not = ap (λ (x : Bool). option_map value_in (cond x (Some c) None)) not
 
 -- a slot that is settled stays so
-pub settled_more : (n : ℕ) (calls more : List Call) (slot : ℕ) → IsChosenOrDecided n calls slot → IsChosenOrDecided n (calls ++ more) slot
+pub settled_more : (n : ℕ) (calls more : List LearnerCall) (slot : ℕ) → IsChosenOrDecided n calls slot → IsChosenOrDecided n (calls ++ more) slot
 settled_more n calls more slot (inl told) =
     inl (list_any-append (is_decision_for slot) calls more ∙ ap (λ (x : Bool). x || list_any (is_decision_for slot) more) told)
 settled_more n calls more slot (inr chosen) =
@@ -49,13 +49,13 @@ settled_more n calls more slot (inr chosen) =
     inr (chosen.0, omega (arith, chosen.1, tally_more n (has_voted calls slot chosen.0) (has_voted (calls ++ more) slot chosen.0) votes))
 
 -- what is told of it by one more call settles it
-pub settled_by_decision : (n : ℕ) (calls : List Call) (slot : ℕ) (v : Value) → IsChosenOrDecided n (calls ++ Decided slot v ∷ []) slot
+pub settled_by_decision : (n : ℕ) (calls : List LearnerCall) (slot : ℕ) (v : Value) → IsChosenOrDecided n (calls ++ Decided slot v ∷ []) slot
 settled_by_decision n calls slot v =
     let here : list_any (is_decision_for slot) (Decided slot v ∷ []) ≡ true = ap (λ (x : Bool). x || false) (eq-eqb slot slot refl) in
     inl (list_any-append (is_decision_for slot) calls (Decided slot v ∷ []) ∙ grind (arith, common_steps))
 
 -- a slot that is not settled stays so where the call is no decision for it and makes no new majority
-pub still_unsettled : (n : ℕ) (calls : List Call) (c : Call) (slot : ℕ) → (IsChosenOrDecided n calls slot → ⊥) → is_decision_for slot c ≡ false
+pub still_unsettled : (n : ℕ) (calls : List LearnerCall) (c : LearnerCall) (slot : ℕ) → (IsChosenOrDecided n calls slot → ⊥) → is_decision_for slot c ≡ false
     → ((b : Ballot) → IsMajority n (tally n (has_voted (calls ++ c ∷ []) slot b)) → IsMajority n (tally n (has_voted calls slot b)))
     → IsChosenOrDecided n (calls ++ c ∷ []) slot → ⊥
 still_unsettled n calls c slot not none majority (inl told) =
@@ -65,12 +65,12 @@ still_unsettled n calls c slot not none majority (inr chosen) = not (inr (chosen
 
 -- ---- calls that tell nothing that counts for the slot
 
-pub record IsApart (n slot : ℕ) (c : Call) : Type 0 where
+pub record IsApart (n slot : ℕ) (c : LearnerCall) : Type 0 where
   pub decision : is_decision_for slot c ≡ false
   pub vote : (b : Ballot) (member : ℕ) → member < n → is_vote_of member slot b c ≡ false
   pub counted : (b : Ballot) → is_counted n slot b c ≡ false
 
-pub other_apart : (n slot : ℕ) (c : Call) → slot ≢ slot_of c → IsApart n slot c
+pub other_apart : (n slot : ℕ) (c : LearnerCall) → slot ≢ slot_of c → IsApart n slot c
 other_apart n slot (Accepted a s b v) differs =
     let no : (s == slot) ≡ false = grind (arith, nat_tests) in
     record {
@@ -94,7 +94,7 @@ stranger_apart n slot a s b v stranger =
       counted = λ b'. grind (arith, common_steps);
     }
 
-module _ (n : ℕ) (calls : List Call) (c : Call) (slot : ℕ) (apart : IsApart n slot c) where
+module _ (n : ℕ) (calls : List LearnerCall) (c : LearnerCall) (slot : ℕ) (apart : IsApart n slot c) where
   pub votes_apart : (b : Ballot) (member : ℕ) → member < n → has_voted (calls ++ c ∷ []) slot b member ≡ has_voted calls slot b member
   votes_apart b member lt =
       votes_with calls c slot b member ∙ ap (λ (x : Bool). has_voted calls slot b member || x) (apart.vote b member lt) ∙ or-false (has_voted calls slot b member)
@@ -131,8 +131,8 @@ module _ (a slot : ℕ) (b : Ballot) (v : Value) where
 
 -- ---- an acceptance of the slot
 
-module _ (n : ℕ) (calls : List Call) (a slot : ℕ) (b : Ballot) (v : Value) where
-  abbrev told : Call
+module _ (n : ℕ) (calls : List LearnerCall) (a slot : ℕ) (b : Ballot) (v : Value) where
+  abbrev told : LearnerCall
   told = Accepted a slot b v
 
   -- it can make a majority at its own ballot alone
@@ -160,7 +160,7 @@ module _ (n : ℕ) (calls : List Call) (a slot : ℕ) (b : Ballot) (v : Value) w
 
 -- ---- a majority has a first value
 
-no_vote : (n slot m : ℕ) (b : Ballot) (c : Call) → m < n → is_counted n slot b c ≡ false → is_vote_of m slot b c ≡ false
+no_vote : (n slot m : ℕ) (b : Ballot) (c : LearnerCall) → m < n → is_counted n slot b c ≡ false → is_vote_of m slot b c ≡ false
 no_vote n slot m b (Accepted a s d v) lt not = elim (eqb_tells a m) [
   | inl same ↦
       let member : nat_lt a n ≡ true = grind (arith, nat_tests) in
@@ -169,10 +169,10 @@ no_vote n slot m b (Accepted a s d v) lt not = elim (eqb_tells a m) [
 ]
 no_vote n slot m b (Decided s v) lt not = refl
 
-abbrev Counted : (n slot : ℕ) (b : Ballot) → List Call → Type 0
+abbrev Counted : (n slot : ℕ) (b : Ballot) → List LearnerCall → Type 0
 Counted n slot b calls = (v : Value) × (first_counted n calls slot b ≡ Some v)
 
-counted_step : (n slot m : ℕ) (b : Ballot) (c : Call) (calls : List Call) (x : Bool) → is_counted n slot b c ≡ x → m < n → has_voted (c ∷ calls) slot b m ≡ true
+counted_step : (n slot m : ℕ) (b : Ballot) (c : LearnerCall) (calls : List LearnerCall) (x : Bool) → is_counted n slot b c ≡ x → m < n → has_voted (c ∷ calls) slot b m ≡ true
     → (has_voted calls slot b m ≡ true → Counted n slot b calls) → Counted n slot b (c ∷ calls)
 counted_step n slot m b c calls true counted lt e rest =
     (value_in c, ap (λ (x : Bool). option_map value_in (cond x (Some c) (find (is_counted n slot b) calls))) counted)
@@ -180,12 +180,12 @@ counted_step n slot m b c calls false not lt e rest =
     let later = rest (ap (λ (x : Bool). x || has_voted calls slot b m) (sym (no_vote n slot m b c lt not)) ∙ e) in
     (later.0, ap (λ (x : Bool). option_map value_in (cond x (Some c) (find (is_counted n slot b) calls))) not ∙ later.1)
 
-any_counted : (n slot m : ℕ) (b : Ballot) (calls : List Call) → m < n → has_voted calls slot b m ≡ true → Counted n slot b calls
+any_counted : (n slot m : ℕ) (b : Ballot) (calls : List LearnerCall) → m < n → has_voted calls slot b m ≡ true → Counted n slot b calls
 any_counted n slot m b [] lt e = absurd (let no : false ≡ true = e in cc)
 any_counted n slot m b (c ∷ calls) lt e =
     counted_step n slot m b c calls (is_counted n slot b c) refl lt e (λ f. any_counted n slot m b calls lt f)
 
-pub first_of_majority : (n slot : ℕ) (b : Ballot) (calls : List Call) → IsMajority n (tally n (has_voted calls slot b)) → (v : Value) × (first_counted n calls slot b ≡ Some v)
+pub first_of_majority : (n slot : ℕ) (b : Ballot) (calls : List LearnerCall) → IsMajority n (tally n (has_voted calls slot b)) → (v : Value) × (first_counted n calls slot b ≡ Some v)
 first_of_majority n slot b calls majority =
     let some = some_member n (has_voted calls slot b) (omega (arith, majority)) in
     any_counted n slot some.member b calls some.within some.is_in

@@ -10,7 +10,7 @@ use Rattle.ballots.specs.Ballot.{Ballot, is_same_ballot}
 use Rattle.ballots.specs.Majority.{tally, IsMajority}
 use Rattle.ballots.specs.declared.value.Value.{Value}
 use Rattle.ballots.proofs.CallerLemmas.{same_ballot_is, majority_stays}
-use Rattle.learner.specs.Calls.{Call, Accepted, Decided, value_in, slot_of, is_decision_for, is_vote_of, is_counted, has_voted, first_counted, IsChosenOrDecided, DecidingValue, IsLearned, Learns}
+use Rattle.learner.specs.Calls.{LearnerCall, Accepted, Decided, value_in, slot_of, is_decision_for, is_vote_of, is_counted, has_voted, first_counted, IsChosenOrDecided, DecidingValue, IsLearned, Learns}
 use Rattle.learner.specs.declared.tally.Tally.{Tally}
 use Rattle.learner.specs.State.{LearnerState, has_vote, decided_at, tally_at, voted_at, first_at}
 use Rattle.learner.specs.Learned.{StateAfter}
@@ -20,16 +20,16 @@ use Rattle.learner.proofs.OneValue.{one_value, learned_of_settled, settled_of_le
 
 -- ---- one element of a list
 
-here : (c : Call) (calls : List Call) → Contains (c ∷ calls) c
+here : (c : LearnerCall) (calls : List LearnerCall) → Contains (c ∷ calls) c
 here c calls = Contains-append_left (c ∷ []) calls c (Contains-push [] c)
 
-there : (c d : Call) (calls : List Call) → Contains calls d → Contains (c ∷ calls) d
+there : (c d : LearnerCall) (calls : List LearnerCall) → Contains calls d → Contains (c ∷ calls) d
 there c d calls is_in = Contains-append_right (c ∷ []) calls d is_in
 
-nowhere : (d : Call) → Contains [] d → ⊥
+nowhere : (d : LearnerCall) → Contains [] d → ⊥
 nowhere d is_in = absurd (omega (arith, is_in.1))
 
-first_or_rest : (c d : Call) (calls : List Call) → Contains (c ∷ calls) d → (c ≡ d) ⊎ Contains calls d
+first_or_rest : (c d : LearnerCall) (calls : List LearnerCall) → Contains (c ∷ calls) d → (c ≡ d) ⊎ Contains calls d
 first_or_rest c d calls is_in = elim (Contains-append_cases (c ∷ []) calls d is_in) as (λ _. (c ≡ d) ⊎ Contains calls d) [
   | inl one ↦ elim (Contains-push_cases [] c d one) as (λ _. (c ≡ d) ⊎ Contains calls d) [
     | inl none ↦ absurd (nowhere d none)
@@ -46,11 +46,11 @@ both_true true false e = (refl, e)
 both_true false true e = (e, refl)
 both_true false false e = (e, e)
 
-decision_is : (slot : ℕ) (c : Call) → is_decision_for slot c ≡ true → (v : Value) × (c ≡ Decided slot v)
+decision_is : (slot : ℕ) (c : LearnerCall) → is_decision_for slot c ≡ true → (v : Value) × (c ≡ Decided slot v)
 decision_is slot (Accepted a s b v) is = absurd (let no : false ≡ true = is in cc)
 decision_is slot (Decided s v) is = (v, ap (λ (t : ℕ). Decided t v) (grind (arith, nat_tests, is)))
 
-vote_is : (member slot : ℕ) (b : Ballot) (c : Call) → is_vote_of member slot b c ≡ true → (v : Value) × (c ≡ Accepted member slot b v)
+vote_is : (member slot : ℕ) (b : Ballot) (c : LearnerCall) → is_vote_of member slot b c ≡ true → (v : Value) × (c ≡ Accepted member slot b v)
 vote_is member slot b (Accepted a s d v) is =
     let outer : (((a == member) && (s == slot)) ≡ true) × (is_same_ballot d b ≡ true) = both_true _ _ is in
     let inner : ((a == member) ≡ true) × ((s == slot) ≡ true) = both_true _ _ outer.0 in
@@ -60,7 +60,7 @@ vote_is member slot b (Accepted a s d v) is =
     (v, ap (λ (x : ℕ). Accepted x s d v) members_are ∙ ap (λ (x : ℕ). Accepted member x d v) slots_are ∙ ap (λ (x : Ballot). Accepted member slot x v) ballots_are)
 vote_is member slot b (Decided s v) is = absurd (let no : false ≡ true = is in cc)
 
-counted_is : (n slot : ℕ) (b : Ballot) (c : Call) → is_counted n slot b c ≡ true → (member : ℕ) × (member < n) × (c ≡ Accepted member slot b (value_in c))
+counted_is : (n slot : ℕ) (b : Ballot) (c : LearnerCall) → is_counted n slot b c ≡ true → (member : ℕ) × (member < n) × (c ≡ Accepted member slot b (value_in c))
 counted_is n slot b (Accepted a s d v) is =
     let outer : ((nat_lt a n && (s == slot)) ≡ true) × (is_same_ballot d b ≡ true) = both_true _ _ is in
     let inner : (nat_lt a n ≡ true) × ((s == slot) ≡ true) = both_true _ _ outer.0 in
@@ -71,7 +71,7 @@ counted_is n slot b (Decided s v) is = absurd (let no : false ≡ true = is in c
 
 -- ---- votes and decisions among the calls
 
-voted_step : (c : Call) (calls : List Call) (member slot : ℕ) (b : Ballot) (x : Bool) → is_vote_of member slot b c ≡ x → has_voted (c ∷ calls) slot b member ≡ true
+voted_step : (c : LearnerCall) (calls : List LearnerCall) (member slot : ℕ) (b : Ballot) (x : Bool) → is_vote_of member slot b c ≡ x → has_voted (c ∷ calls) slot b member ≡ true
     → (has_voted calls slot b member ≡ true → HasAccepted calls member slot b) → HasAccepted (c ∷ calls) member slot b
 voted_step c calls member slot b true vote is rest =
     let told = vote_is member slot b c vote in
@@ -80,7 +80,7 @@ voted_step c calls member slot b false not is rest =
     let later = rest (ap (λ (x : Bool). x || has_voted calls slot b member) (sym not) ∙ is) in
     (later.0, there c (Accepted member slot b later.0) calls later.1)
 
-pub voted_then : (calls : List Call) (member slot : ℕ) (b : Ballot) → has_voted calls slot b member ≡ true → HasAccepted calls member slot b
+pub voted_then : (calls : List LearnerCall) (member slot : ℕ) (b : Ballot) → has_voted calls slot b member ≡ true → HasAccepted calls member slot b
 voted_then [] member slot b is = absurd (let no : false ≡ true = is in cc)
 voted_then (c ∷ calls) member slot b is = voted_step c calls member slot b (is_vote_of member slot b c) refl is (voted_then calls member slot b)
 
@@ -88,7 +88,7 @@ or_true : (x : Bool) → (x || true) ≡ true
 or_true true = refl
 or_true false = refl
 
-pub voted_by : (calls : List Call) (member slot : ℕ) (b : Ballot) → HasAccepted calls member slot b → has_voted calls slot b member ≡ true
+pub voted_by : (calls : List LearnerCall) (member slot : ℕ) (b : Ballot) → HasAccepted calls member slot b → has_voted calls slot b member ≡ true
 voted_by [] member slot b told = absurd (nowhere _ told.1)
 voted_by (c ∷ calls) member slot b told = elim (first_or_rest c (Accepted member slot b told.0) calls told.1) as (λ _. has_voted (c ∷ calls) slot b member ≡ true) [
   | inl same ↦
@@ -97,7 +97,7 @@ voted_by (c ∷ calls) member slot b told = elim (first_or_rest c (Accepted memb
   | inr rest ↦ ap (λ (x : Bool). is_vote_of member slot b c || x) (voted_by calls member slot b (told.0, rest)) ∙ or_true (is_vote_of member slot b c)
 ]
 
-decision_by : (calls : List Call) (slot : ℕ) (v : Value) → Contains calls (Decided slot v) → list_any (is_decision_for slot) calls ≡ true
+decision_by : (calls : List LearnerCall) (slot : ℕ) (v : Value) → Contains calls (Decided slot v) → list_any (is_decision_for slot) calls ≡ true
 decision_by [] slot v told = absurd (nowhere _ told)
 decision_by (c ∷ calls) slot v told = elim (first_or_rest c (Decided slot v) calls told) as (λ _. list_any (is_decision_for slot) (c ∷ calls) ≡ true) [
   | inl same ↦
@@ -108,16 +108,16 @@ decision_by (c ∷ calls) slot v told = elim (first_or_rest c (Decided slot v) c
 
 -- ---- what is learned
 
-pub learned_of_decided : (n : ℕ) (calls : List Call) (slot : ℕ) (v : Value) → Contains calls (Decided slot v) → (w : Value) × IsLearned n calls slot w
+pub learned_of_decided : (n : ℕ) (calls : List LearnerCall) (slot : ℕ) (v : Value) → Contains calls (Decided slot v) → (w : Value) × IsLearned n calls slot w
 learned_of_decided n calls slot v told = learned_of_settled n calls slot (inl (decision_by calls slot v told))
 
-pub learned_of_chosen : (n : ℕ) (calls : List Call) (slot : ℕ) (b : Ballot) → MajorityAccepted n calls slot b → (w : Value) × IsLearned n calls slot w
+pub learned_of_chosen : (n : ℕ) (calls : List LearnerCall) (slot : ℕ) (b : Ballot) → MajorityAccepted n calls slot b → (w : Value) × IsLearned n calls slot w
 learned_of_chosen n calls slot b chosen =
     learned_of_settled n calls slot
     (inr (b, majority_stays n chosen.is_voter (has_voted calls slot b) (λ m lt is. voted_by calls m slot b (chosen.each m lt is)) chosen.majority))
 
 -- the members that were counted are a majority, and told so
-majority_of_votes : (n : ℕ) (calls : List Call) (slot : ℕ) (b : Ballot) → IsMajority n (tally n (has_voted calls slot b)) → MajorityAccepted n calls slot b
+majority_of_votes : (n : ℕ) (calls : List LearnerCall) (slot : ℕ) (b : Ballot) → IsMajority n (tally n (has_voted calls slot b)) → MajorityAccepted n calls slot b
 majority_of_votes n calls slot b majority = record {
   is_voter = has_voted calls slot b;
   majority = majority;
@@ -125,15 +125,15 @@ majority_of_votes n calls slot b majority = record {
 }
 
 -- it is the first of a member for the slot at the ballot
-abbrev First : ℕ → List Call → ℕ → Ballot → Value → Type 0
+abbrev First : ℕ → List LearnerCall → ℕ → Ballot → Value → Type 0
 First n calls slot b v =
-    (before : List Call) × (member : ℕ) × (after : List Call) × (calls ≡ before ++ Accepted member slot b v ∷ after) × (member < n)
+    (before : List LearnerCall) × (member : ℕ) × (after : List LearnerCall) × (calls ≡ before ++ Accepted member slot b v ∷ after) × (member < n)
     × ((m : ℕ) → m < n → HasAccepted before m slot b → ⊥)
 
 some_one : (w u : Value) → Some w ≡ Some u → w ≡ u
 some_one w u e = cc
 
-none_before : (n slot : ℕ) (b : Ballot) (c : Call) (before : List Call) → is_counted n slot b c ≡ false → ((m : ℕ) → m < n → HasAccepted before m slot b → ⊥)
+none_before : (n slot : ℕ) (b : Ballot) (c : LearnerCall) (before : List LearnerCall) → is_counted n slot b c ≡ false → ((m : ℕ) → m < n → HasAccepted before m slot b → ⊥)
     → (m : ℕ) → m < n → HasAccepted (c ∷ before) m slot b → ⊥
 none_before n slot b c before not none m lt accepted = elim (first_or_rest c (Accepted m slot b accepted.0) before accepted.1) as (λ _. ⊥) [
   | inl same ↦
@@ -142,26 +142,26 @@ none_before n slot b c before not none m lt accepted = elim (first_or_rest c (Ac
   | inr rest ↦ none m lt (accepted.0, rest)
 ]
 
-first_step : (n : ℕ) (c : Call) (calls : List Call) (slot : ℕ) (b : Ballot) (v : Value) (x : Bool) → is_counted n slot b c ≡ x → first_counted n (c ∷ calls) slot b ≡ Some v
+first_step : (n : ℕ) (c : LearnerCall) (calls : List LearnerCall) (slot : ℕ) (b : Ballot) (v : Value) (x : Bool) → is_counted n slot b c ≡ x → first_counted n (c ∷ calls) slot b ≡ Some v
     → (first_counted n calls slot b ≡ Some v → First n calls slot b v) → First n (c ∷ calls) slot b v
 first_step n c calls slot b v true counted is rest =
     let told = counted_is n slot b c counted in
     let value : value_in c ≡ v = some_one (value_in c) v (sym (ap (λ (x : Bool). option_map value_in (cond x (Some c) (find (is_counted n slot b) calls))) counted) ∙ is) in
-    ([], told.0, calls, ap (λ (d : Call). d ∷ calls) (told.2 ∙ ap (Accepted told.0 slot b) value), told.1, λ m lt accepted. nowhere _ accepted.1)
+    ([], told.0, calls, ap (λ (d : LearnerCall). d ∷ calls) (told.2 ∙ ap (Accepted told.0 slot b) value), told.1, λ m lt accepted. nowhere _ accepted.1)
 first_step n c calls slot b v false not is rest =
     let later = rest (sym (ap (λ (x : Bool). option_map value_in (cond x (Some c) (find (is_counted n slot b) calls))) not) ∙ is) in
-    (c ∷ later.0, later.1, later.2, ap (λ (l : List Call). c ∷ l) later.3, later.4, none_before n slot b c later.0 not later.5)
+    (c ∷ later.0, later.1, later.2, ap (λ (l : List LearnerCall). c ∷ l) later.3, later.4, none_before n slot b c later.0 not later.5)
 
-pub first_counted_is : (n : ℕ) (calls : List Call) (slot : ℕ) (b : Ballot) (v : Value) → first_counted n calls slot b ≡ Some v → First n calls slot b v
+pub first_counted_is : (n : ℕ) (calls : List LearnerCall) (slot : ℕ) (b : Ballot) (v : Value) → first_counted n calls slot b ≡ Some v → First n calls slot b v
 first_counted_is n [] slot b v is = absurd (let no : None ≡ Some v = is in cc)
 first_counted_is n (c ∷ calls) slot b v is =
     first_step n c calls slot b v (is_counted n slot b c) refl is (λ e. first_counted_is n calls slot b v e)
 
-in_the_middle : (before after : List Call) (c : Call) → Contains (before ++ c ∷ after) c
+in_the_middle : (before after : List LearnerCall) (c : LearnerCall) → Contains (before ++ c ∷ after) c
 in_the_middle before after c = Contains-append_right before (c ∷ after) c (here c after)
 
 -- what the deciding call tells was told as decided, or a member accepted it where a majority did
-only_where_told : (n : ℕ) (before : List Call) (c : Call) (v : Value) → (IsChosenOrDecided n before (slot_of c) → ⊥)
+only_where_told : (n : ℕ) (before : List LearnerCall) (c : LearnerCall) (v : Value) → (IsChosenOrDecided n before (slot_of c) → ⊥)
     → IsChosenOrDecided n (before ++ c ∷ []) (slot_of c) → DecidingValue n (before ++ c ∷ []) (slot_of c) c v
     → IsDecidedOrChosen n (before ++ c ∷ []) (slot_of c) v
 only_where_told n before (Decided s u) v not settled told =
@@ -174,12 +174,12 @@ only_where_told n before (Accepted a s b u) v not settled told = elim (cases_lt 
         accepted = majority_of_votes n (before ++ Accepted a s b u ∷ []) s b majority;
         member = first.1;
         within = first.4;
-        proposed = subst (λ (l : List Call). Contains l (Accepted first.1 s b v)) (sym first.3) (in_the_middle first.0 first.2 (Accepted first.1 s b v));
+        proposed = subst (λ (l : List LearnerCall). Contains l (Accepted first.1 s b v)) (sym first.3) (in_the_middle first.0 first.2 (Accepted first.1 s b v));
       })
   | inr none ↦ absurd (unsettled_accepted n before a s b u not (λ majority. absurd (omega (arith, majority, none))) settled)
 ]
 
-only_here : (n : ℕ) (before : List Call) (c : Call) (slot : ℕ) (v : Value) → (IsChosenOrDecided n before slot → ⊥)
+only_here : (n : ℕ) (before : List LearnerCall) (c : LearnerCall) (slot : ℕ) (v : Value) → (IsChosenOrDecided n before slot → ⊥)
     → IsChosenOrDecided n (before ++ c ∷ []) slot → DecidingValue n (before ++ c ∷ []) slot c v → IsDecidedOrChosen n (before ++ c ∷ []) slot v
 only_here n before c slot v not settled told = elim (cases_eq slot (slot_of c)) [
   | inl same ↦
@@ -190,7 +190,7 @@ only_here n before c slot v not settled told = elim (cases_eq slot (slot_of c)) 
 ]
 
 -- and so it is among more calls
-more_told : (n : ℕ) (calls more : List Call) (slot : ℕ) (v : Value) → IsDecidedOrChosen n calls slot v → IsDecidedOrChosen n (calls ++ more) slot v
+more_told : (n : ℕ) (calls more : List LearnerCall) (slot : ℕ) (v : Value) → IsDecidedOrChosen n calls slot v → IsDecidedOrChosen n (calls ++ more) slot v
 more_told n calls more slot v (inl decided) = inl (Contains-append_left calls more (Decided slot v) decided)
 more_told n calls more slot v (inr chosen) =
     inr (record {
@@ -207,14 +207,14 @@ more_told n calls more slot v (inr chosen) =
       proposed = Contains-append_left calls more (Accepted chosen.member slot chosen.ballot v) chosen.proposed;
     })
 
-pub only_decided_or_chosen : (n : ℕ) (calls : List Call) (slot : ℕ) (v : Value) → IsLearned n calls slot v → IsDecidedOrChosen n calls slot v
+pub only_decided_or_chosen : (n : ℕ) (calls : List LearnerCall) (slot : ℕ) (v : Value) → IsLearned n calls slot v → IsDecidedOrChosen n calls slot v
 only_decided_or_chosen n calls slot v p =
-    subst (λ (l : List Call). IsDecidedOrChosen n l slot v) (append_assoc p.before (p.call ∷ []) p.after ∙ sym p.parts)
+    subst (λ (l : List LearnerCall). IsDecidedOrChosen n l slot v) (append_assoc p.before (p.call ∷ []) p.after ∙ sym p.parts)
     (more_told n (p.before ++ p.call ∷ []) p.after slot v (only_here n p.before p.call slot v p.not_before p.settled p.told))
 
 -- ---- one answer
 
-pub learns_one : (n : ℕ) (calls : List Call) (c : Call) (slot : ℕ) (a b : Option Value) → Learns n calls c slot a → Learns n calls c slot b → a ≡ b
+pub learns_one : (n : ℕ) (calls : List LearnerCall) (c : LearnerCall) (slot : ℕ) (a b : Option Value) → Learns n calls c slot a → Learns n calls c slot b → a ≡ b
 learns_one n calls c slot None None p q = refl
 learns_one n calls c slot None (Some w) p q = absurd (q.0 (p (settled_of_learned n (calls ++ c ∷ []) slot w q.1)))
 learns_one n calls c slot (Some v) None p q = absurd (p.0 (q (settled_of_learned n (calls ++ c ∷ []) slot v p.1)))
@@ -222,14 +222,14 @@ learns_one n calls c slot (Some v) (Some w) p q = ap Some (one_value n (calls ++
 
 -- ---- states
 
-pub decided_is_learned : (n : ℕ) (calls : List Call) (h : LearnerState) (slot : ℕ) (v : Value) → StateAfter n calls h → (decided_at h slot ≡ Some v ↔ IsLearned n calls slot v)
+pub decided_is_learned : (n : ℕ) (calls : List LearnerCall) (h : LearnerState) (slot : ℕ) (v : Value) → StateAfter n calls h → (decided_at h slot ≡ Some v ↔ IsLearned n calls slot v)
 decided_is_learned n calls h slot v l = (l.learned slot v, λ learned. by (decided_at h slot) refl learned)
   where
     by : (o : Option Value) → decided_at h slot ≡ o → IsLearned n calls slot v → decided_at h slot ≡ Some v
     by None e learned = absurd (l.unsettled slot e (settled_of_learned n calls slot v learned))
     by (Some w) e learned = e ∙ ap Some (one_value n calls slot w v (l.learned slot w e) learned)
 
-decided_alike : (n : ℕ) (calls : List Call) (g h : LearnerState) (slot : ℕ) → StateAfter n calls g → StateAfter n calls h → decided_at g slot ≡ decided_at h slot
+decided_alike : (n : ℕ) (calls : List LearnerCall) (g h : LearnerState) (slot : ℕ) → StateAfter n calls g → StateAfter n calls h → decided_at g slot ≡ decided_at h slot
 decided_alike n calls g h slot k l = by (decided_at g slot) refl
   where
     none : (o : Option Value) → decided_at g slot ≡ None → decided_at h slot ≡ o → decided_at h slot ≡ None
@@ -240,7 +240,7 @@ decided_alike n calls g h slot k l = by (decided_at g slot) refl
     by None e = e ∙ sym (none (decided_at h slot) e refl)
     by (Some v) e = e ∙ sym ((decided_is_learned n calls h slot v l).1 (k.learned slot v e))
 
-pub firsts_alike : (n : ℕ) (calls : List Call) (g h : LearnerState) (slot : ℕ) (b : Ballot) → StateAfter n calls g → StateAfter n calls h → first_at g slot b ≡ first_at h slot b
+pub firsts_alike : (n : ℕ) (calls : List LearnerCall) (g h : LearnerState) (slot : ℕ) (b : Ballot) → StateAfter n calls g → StateAfter n calls h → first_at g slot b ≡ first_at h slot b
 firsts_alike n calls g h slot b k l = by (decided_at g slot) refl
   where
     by : (o : Option Value) → decided_at g slot ≡ o → first_at g slot b ≡ first_at h slot b
@@ -255,7 +255,7 @@ none_voted h slot b member e = by (tally_at h slot b) refl
     by None is = ap (λ (t : Option Tally). option_map_or (λ t. has_vote t member) t false) is
     by (Some t) is = absurd (let no : Some t.value ≡ None = sym (ap (option_map (λ (t : Tally). t.value)) is) ∙ e in cc)
 
-pub votes_alike : (n : ℕ) (calls : List Call) (g h : LearnerState) (slot : ℕ) (b : Ballot) (member : ℕ) → StateAfter n calls g → StateAfter n calls h → member < n
+pub votes_alike : (n : ℕ) (calls : List LearnerCall) (g h : LearnerState) (slot : ℕ) (b : Ballot) (member : ℕ) → StateAfter n calls g → StateAfter n calls h → member < n
     → voted_at g slot b member ≡ voted_at h slot b member
 votes_alike n calls g h slot b member k l lt = by (decided_at g slot) refl
   where

@@ -2,12 +2,12 @@
 use Rattle.std.specs.Prelude.{◌≡◌, ◌↔◌, ℕ, ◌<◌, List, Option, Some, None}
 use Rattle.ballots.specs.Ballot.{Ballot}
 use Rattle.ballots.specs.declared.value.Value.{Value}
-use Rattle.learner.specs.Calls.{Call, has_voted, first_counted, IsChosenOrDecided, IsLearned}
+use Rattle.learner.specs.Calls.{LearnerCall, has_voted, first_counted, IsChosenOrDecided, IsLearned}
 use Rattle.learner.specs.State.{LearnerState, decided_at, voted_at, first_at}
 
 -- A slot has a value where it was chosen or decided, and then the one that it learned; what was counted for it is gone.
 -- Of a slot that has none, who was counted at each ballot, and the first value there, are those of the calls.
-pub record StateAfter (n : ℕ) (calls : List Call) (state : LearnerState) : Type 0 where
+pub record StateAfter (n : ℕ) (calls : List LearnerCall) (state : LearnerState) : Type 0 where
   pub members : state.members ≡ n
   pub learned : (slot : ℕ) (value : Value) → decided_at state slot ≡ Some value → IsLearned n calls slot value
   pub gone : (slot : ℕ) (ballot : Ballot) (value : Value) → decided_at state slot ≡ Some value
@@ -19,13 +19,13 @@ pub record StateAfter (n : ℕ) (calls : List Call) (state : LearnerState) : Typ
       → first_at state slot ballot ≡ first_counted n calls slot ballot
 
 -- this is what each slot learned of the calls
-abbrev pub HasLearned : ℕ → List Call → (ℕ → Option Value) → Type 0
+abbrev pub HasLearned : ℕ → List LearnerCall → (ℕ → Option Value) → Type 0
 HasLearned members calls at = (slot : ℕ) (value : Value) → at slot ≡ Some value ↔ IsLearned members calls slot value
 
 -- it was made of some members, and some calls left it so
 pub record HasHistory (state : LearnerState) : Type 0 where
   pub members : ℕ
-  pub calls : List Call
+  pub calls : List LearnerCall
   pub after : StateAfter members calls state
 
 -- every look-up answers as before

@@ -2,7 +2,7 @@ ghost use Rattle.std.specs.Prelude.{◌≡◌, ℕ, ◌<◌, [], ◌∷◌, ◌+
 ghost use Rattle.std.specs.Option.{option_map, option_or};
 ghost use Rattle.ballots.specs.Slots.{OthersStay};
 ghost use Rattle.ballots.specs.declared.value.Value.{Value as Held};
-ghost use Rattle.learner.specs.Calls.{Call, Accepted, Decided, Learns};
+ghost use Rattle.learner.specs.Calls.{LearnerCall, Accepted, Decided, Learns};
 ghost use Rattle.learner.specs.State.{decided_at, HasRoomToLearn, HasRoomForVote};
 ghost use Rattle.learner.specs.Learned.{StateAfter, HasHistory, IsSame};
 ghost use Rattle.learner.specs.Changes.{LearnsNow, DecidedNow};
@@ -60,7 +60,7 @@ impl Learner {
         value: &Value,
     ) -> Result<Option<Value>, OutOfMemory>
         ensures room { OnOk result (HasRoomToLearn self.new slot) }
-        ensures told { IfOk result (λ told. (n : ℕ) (calls : List Call) → StateAfter n calls self.old
+        ensures told { IfOk result (λ told. (n : ℕ) (calls : List LearnerCall) → StateAfter n calls self.old
             → Learns n calls (Decided slot value.now) slot told) }
         ensures now { IfOk result (DecidedNow (decided_at self.old slot) value.now) }
         ensures same { IsSame self.old self.new }
@@ -72,7 +72,7 @@ impl Learner {
     /// Learns that this value was decided for the slot. Where the slot has learned one, it stays.
     pub fn on_decided(&mut self, slot: Slot, value: Value)
         requires { HasRoomToLearn self.old slot }
-        ensures learned { (n : ℕ) (calls : List Call) → StateAfter n calls self.old
+        ensures learned { (n : ℕ) (calls : List LearnerCall) → StateAfter n calls self.old
             → StateAfter n (calls ++ Decided slot value ∷ []) self.new }
         ensures here { decided_at self.new slot ≡ option_or (decided_at self.old slot) (Some value) }
         ensures others { OthersStay (decided_at self.old) (decided_at self.new) slot }
@@ -90,7 +90,7 @@ impl Learner {
         value: &Value,
     ) -> Result<Option<Value>, OutOfMemory>
         ensures room { OnOk result (HasRoomForVote self.new acceptor slot ballot) }
-        ensures told { IfOk result (λ told. (n : ℕ) (calls : List Call) → StateAfter n calls self.old
+        ensures told { IfOk result (λ told. (n : ℕ) (calls : List LearnerCall) → StateAfter n calls self.old
             → Learns n calls (Accepted acceptor slot ballot value.now) slot told) }
         ensures now { IfOk result (λ told. LearnsNow self.old acceptor slot ballot value.now told) }
         ensures same { IsSame self.old self.new }
@@ -103,7 +103,7 @@ impl Learner {
     /// told by a node that is no member, or of a slot that has learned a value, counts for nothing.
     pub fn on_accepted(&mut self, acceptor: NodeId, slot: Slot, ballot: Ballot, value: Value)
         requires { HasRoomForVote self.old acceptor slot ballot }
-        ensures learned { (n : ℕ) (calls : List Call) → StateAfter n calls self.old
+        ensures learned { (n : ℕ) (calls : List LearnerCall) → StateAfter n calls self.old
             → StateAfter n (calls ++ Accepted acceptor slot ballot value ∷ []) self.new }
         ensures here { (told : Option Held) → LearnsNow self.old acceptor slot ballot value told
             → decided_at self.new slot ≡ option_or (decided_at self.old slot) told }

@@ -9,7 +9,7 @@ ghost use Rattle.ballots.specs.Ballot.{Ballot as Pair, is_same_ballot};
 ghost use Rattle.ballots.specs.Majority.{contains};
 ghost use Rattle.ballots.specs.Slots.{OthersStay};
 ghost use Rattle.ballots.specs.declared.value.Value.{Value as Held};
-ghost use Rattle.learner.specs.Calls.{Call, Accepted, Decided, Learns};
+ghost use Rattle.learner.specs.Calls.{LearnerCall, Accepted, Decided, Learns};
 ghost use Rattle.learner.specs.State.{decided_at, first_at, tally_in, tally_at, voted_at};
 ghost use Rattle.learner.specs.State.{HasRoomToLearn, HasRoomToCount, HasRoomForTally, HasRoomForVote};
 ghost use Rattle.learner.specs.Learned.{StateAfter, IsSame};
@@ -70,7 +70,7 @@ impl State {
         value: &Value,
     ) -> Result<Option<Value>, OutOfMemory>
         ensures room { OnOk result (HasRoomToLearn self.new slot) }
-        ensures told { IfOk result (λ told. (n : ℕ) (calls : List Call) → StateAfter n calls self.old
+        ensures told { IfOk result (λ told. (n : ℕ) (calls : List LearnerCall) → StateAfter n calls self.old
             → Learns n calls (Decided slot value.now) slot told) }
         ensures now { IfOk result (DecidedNow (decided_at self.old slot) value.now) }
         ensures same { IsSame self.old self.new }
@@ -86,7 +86,7 @@ impl State {
     /// Learns the value, where the slot has learned none.
     pub(crate) fn on_decided(&mut self, slot: Slot, value: Value)
         requires { HasRoomToLearn self.old slot }
-        ensures learned { (n : ℕ) (calls : List Call) → StateAfter n calls self.old
+        ensures learned { (n : ℕ) (calls : List LearnerCall) → StateAfter n calls self.old
             → StateAfter n (calls ++ Decided slot value ∷ []) self.new }
         ensures here { decided_at self.new slot ≡ option_or (decided_at self.old slot) (Some value) }
         ensures others { OthersStay (decided_at self.old) (decided_at self.new) slot }
@@ -105,7 +105,7 @@ impl State {
         value: &Value,
     ) -> Result<Option<Value>, OutOfMemory>
         ensures room { OnOk result (HasRoomForVote self.new acceptor slot ballot) }
-        ensures told { IfOk result (λ told. (n : ℕ) (calls : List Call) → StateAfter n calls self.old
+        ensures told { IfOk result (λ told. (n : ℕ) (calls : List LearnerCall) → StateAfter n calls self.old
             → Learns n calls (Accepted acceptor slot ballot value.now) slot told) }
         ensures now { IfOk result (λ told. LearnsNow self.old acceptor slot ballot value.now told) }
         ensures same { IsSame self.old self.new }
@@ -125,7 +125,7 @@ impl State {
     /// Counts the acceptor, and learns where those counted are a majority.
     pub(crate) fn on_accepted(&mut self, acceptor: NodeId, slot: Slot, ballot: Ballot, value: Value)
         requires { HasRoomForVote self.old acceptor slot ballot }
-        ensures learned { (n : ℕ) (calls : List Call) → StateAfter n calls self.old
+        ensures learned { (n : ℕ) (calls : List LearnerCall) → StateAfter n calls self.old
             → StateAfter n (calls ++ Accepted acceptor slot ballot value ∷ []) self.new }
         ensures here { (told : Option Held) → LearnsNow self.old acceptor slot ballot value told
             → decided_at self.new slot ≡ option_or (decided_at self.old slot) told }

@@ -8,7 +8,7 @@ use Rattle.ballots.specs.Limits.{max_round}
 use Rattle.ballots.specs.declared.value.Value.{Value}
 use Rattle.ballots.specs.declared.value.Value.TheVariants.{Noop, Upload as UploadValue}
 use Rattle.proposer.specs.Attempting.{next_ballot}
-use Rattle.agreement_rules.specs.Views.{Config, Views, HasPrefix, HasGap}
+use Rattle.agreement_rules.specs.Views.{AgreementConfig, Views, HasPrefix, HasGap}
 use Rattle.ballots.specs.Message.{message}
 use Rattle.ballots.specs.declared.message.Body.TheVariants.{Ask}
 use Rattle.agreement_rules.specs.Due.{Aim, Attempts, AsksFrom, IsAim, AimIsDue, TickIsDue, Plan, Plans, most_left, begins}
@@ -134,13 +134,13 @@ RoundIsLeft state = HasRoundLeft state.agreement
 
 -- ---- where a tick leads
 
-told_stays : (config : Config) (me : ℕ) (views : Views) (aim : Aim) (plan : Plan) → AimIsDue config me views aim (Plans plan)
+told_stays : (config : AgreementConfig) (me : ℕ) (views : Views) (aim : Aim) (plan : Plan) → AimIsDue config me views aim (Plans plan)
     → plan.after.learner_calls ≡ views.learner_calls
 told_stays config me views (Attempts slot value) plan due = ap (λ (p : Plan). p.after.learner_calls) due.4
 told_stays config me views (AsksFrom slot) plan (inl due) = ap (λ (p : Plan). p.after.learner_calls) due.1
 told_stays config me views (AsksFrom slot) plan (inr due) = ap (λ (p : Plan). p.after.learner_calls) due.1
 
-pub tick_told : (config : Config) (me : ℕ) (views : Views) (left : ℕ) (plan : Plan) → TickIsDue config me views left (Plans plan)
+pub tick_told : (config : AgreementConfig) (me : ℕ) (views : Views) (left : ℕ) (plan : Plan) → TickIsDue config me views left (Plans plan)
     → plan.after.learner_calls ≡ views.learner_calls
 tick_told config me views left plan (inl due) = absurd (cc)
 tick_told config me views left plan (inr due) = told_stays config me views due.0 plan due.3

@@ -9,7 +9,7 @@ use Rattle.stable_records.specs.declared.fault.StoreFault.{StoreFault}
 use Rattle.stable_records.specs.declared.fault.StoreFault.TheVariants.{Device, Damaged, Broken, OutOfMemory}
 use Rattle.stable_records.specs.Found.{Found, FindsOnly, IsWithOrWithout}
 use Rattle.stable_records.specs.Calls.{LeftInKeep}
-use Rattle.agreement_rules.specs.Views.{Config, Views, started_with}
+use Rattle.agreement_rules.specs.Views.{AgreementConfig, Views, started_with}
 use Rattle.histories.specs.Due.{Input, InputKeeps}
 use Rattle.histories.specs.Due as input
 use Rattle.histories.specs.Event.{Event, node_of}
@@ -17,7 +17,7 @@ use Rattle.histories.specs.Event as event
 use Rattle.histories.specs.EventResult.{count_of}
 use Rattle.histories.specs.EventResult as results
 use Rattle.histories.specs.History.{Step}
-use Rattle.histories.specs.Following.{Seat, IsUp, IsDown, with_due, SeatGives, StepFollows, IsAsked, Reaches, with_seat}
+use Rattle.histories.specs.Following.{UpOrDown, IsUp, IsDown, with_due, NodeGives, StepFollows, IsAsked, Reaches, with_seat}
 use Rattle.histories.specs.Owning.{own}
 use Rattle.histories.specs.Keeping.{AreKept, records_in}
 use Rattle.node_core.specs.Reopening.{IsCutOf, MayBeLeft, done, GoesOnWith, IsKeptThrough}
@@ -25,20 +25,20 @@ use Rattle.node_core.specs.Reopening.{IsCutOf, MayBeLeft, done, GoesOnWith, IsKe
 -- ---- what the laws of histories say
 
 abbrev pub StepsAlone : Type 0
-StepsAlone = (config : Config) (sent : List Message) (next : ℕ) (seats : ℕ → Seat) (step : Step) (recovered : Bool)
-    (seat : Seat) → node_of step.event < config.members
-    → SeatGives config sent next recovered (seats (node_of step.event)) step.event step.result seat
+StepsAlone = (config : AgreementConfig) (sent : List Message) (next : ℕ) (seats : ℕ → UpOrDown) (step : Step) (recovered : Bool)
+    (seat : UpOrDown) → node_of step.event < config.members
+    → NodeGives config sent next recovered (seats (node_of step.event)) step.event step.result seat
     → StepFollows config sent next seats step recovered (with_seat seats (node_of step.event) seat)
 
 abbrev pub StepsMore : Type 0
-StepsMore = (config : Config) (sent more : List Message) (steps : List Step) (recovered : List Bool)
-    (seats new : ℕ → Seat) (step : Step) (was : Bool) → Reaches config sent steps recovered seats
+StepsMore = (config : AgreementConfig) (sent more : List Message) (steps : List Step) (recovered : List Bool)
+    (seats new : ℕ → UpOrDown) (step : Step) (was : Bool) → Reaches config sent steps recovered seats
     → StepFollows config (sent ++ more) (length sent) seats step was new → IsAsked step.event was
     → length more ≡ count_of step.result
     → Reaches config (sent ++ more) (steps ++ step ∷ []) (recovered ++ was ∷ []) new
 
 abbrev pub KeepsRecords : Type 0
-KeepsRecords = (config : Config) (sent : List Message) (steps : List Step) (recovered : List Bool) (seats : ℕ → Seat)
+KeepsRecords = (config : AgreementConfig) (sent : List Message) (steps : List Step) (recovered : List Bool) (seats : ℕ → UpOrDown)
     (node : ℕ) → node < config.members → Reaches config sent steps recovered seats
     → AreKept config (IsUp (started_with [])) (own node sent steps recovered) (records_in (seats node))
 
@@ -63,25 +63,25 @@ module _ (records : List Record) (finds : Found → Type 0) (found : Found) (onl
 
 -- ---- one seat in the place of another
 
-seat_there : (seats : ℕ → Seat) (node : ℕ) (seat : Seat) → with_seat seats node seat node ≡ seat
+seat_there : (seats : ℕ → UpOrDown) (node : ℕ) (seat : UpOrDown) → with_seat seats node seat node ≡ seat
 seat_there seats node seat = ap (λ (b : Bool). if b then seat else seats node) (eq-eqb node node refl)
 
-seat_besides : (seats : ℕ → Seat) (node : ℕ) (seat : Seat) (other : ℕ) → other ≢ node → with_seat seats node seat other ≡ seats other
+seat_besides : (seats : ℕ → UpOrDown) (node : ℕ) (seat : UpOrDown) (other : ℕ) → other ≢ node → with_seat seats node seat other ≡ seats other
 seat_besides seats node seat other differs = ap (λ (b : Bool). if b then seat else seats other) (ne_eqb other node differs)
 
 -- ---- steps that send nothing
 
-module _ (alone : StepsAlone) (steps_more : StepsMore) (keeps : KeepsRecords) (config : Config) (sent : List Message) (node : ℕ) (member : node < config.members) where
+module _ (alone : StepsAlone) (steps_more : StepsMore) (keeps : KeepsRecords) (config : AgreementConfig) (sent : List Message) (node : ℕ) (member : node < config.members) where
   -- the node itself takes one step more, and sends nothing
-  quiet : (steps : List Step) (recovered : List Bool) (seats : ℕ → Seat) (e : Event) (was : Bool) (old new : Seat) → node_of e ≡ node
-      → Reaches config sent steps recovered seats → seats node ≡ old → SeatGives config sent (length sent) was old e results.Done new → IsAsked e was
+  quiet : (steps : List Step) (recovered : List Bool) (seats : ℕ → UpOrDown) (e : Event) (was : Bool) (old new : UpOrDown) → node_of e ≡ node
+      → Reaches config sent steps recovered seats → seats node ≡ old → NodeGives config sent (length sent) was old e results.Done new → IsAsked e was
       → Reaches config sent (steps ++ done e ∷ []) (recovered ++ was ∷ []) (with_seat seats node new)
   quiet steps recovered seats e was old new own reaches at gives asked =
-      let after : ℕ → Seat = with_seat seats (node_of e) new in
+      let after : ℕ → UpOrDown = with_seat seats (node_of e) new in
       let here : seats (node_of e) ≡ old = ap seats own ∙ at in
       let follows : StepFollows config sent (length sent) seats (done e) was after =
       alone config sent (length sent) seats (done e) was new (subst (λ (n : ℕ). n < config.members) (sym own) member)
-      (subst (λ (s : Seat). SeatGives config sent (length sent) was s e results.Done new) (sym here) gives) in
+      (subst (λ (s : UpOrDown). NodeGives config sent (length sent) was s e results.Done new) (sym here) gives) in
       let there : StepFollows config (sent ++ []) (length sent) seats (done e) was after =
       subst (λ (ms : List Message). StepFollows config ms (length sent) seats (done e) was after) (sym (append-nil sent)) follows in
       let more : Reaches config (sent ++ []) (steps ++ done e ∷ []) (recovered ++ was ∷ []) after =
@@ -91,7 +91,7 @@ module _ (alone : StepsAlone) (steps_more : StepsMore) (keeps : KeepsRecords) (c
       subst (λ (n : ℕ). Reaches config sent (steps ++ done e ∷ []) (recovered ++ was ∷ []) (with_seat seats n new)) own same
 
   -- a history that leaves the node up with records and nothing else
-  goes_on : (steps more : List Step) (recovered asked : List Bool) (seats after : ℕ → Seat) (records : List Record)
+  goes_on : (steps more : List Step) (recovered asked : List Bool) (seats after : ℕ → UpOrDown) (records : List Record)
       → Reaches config sent (steps ++ more) (recovered ++ asked) after → after node ≡ IsUp (started_with records)
       → ((other : ℕ) → other ≢ node → after other ≡ seats other) → GoesOnWith config sent steps more recovered asked seats node records
   goes_on steps more recovered asked seats after records reaches opened others = record {
@@ -99,13 +99,13 @@ module _ (alone : StepsAlone) (steps_more : StepsMore) (keeps : KeepsRecords) (c
     reaches = reaches;
     opened = opened;
     others = others;
-    kept = subst (λ (s : Seat). AreKept config (IsUp (started_with [])) (own node sent (steps ++ more) (recovered ++ asked)) (records_in s)) opened
+    kept = subst (λ (s : UpOrDown). AreKept config (IsUp (started_with [])) (own node sent (steps ++ more) (recovered ++ asked)) (records_in s)) opened
         (keeps config sent (steps ++ more) (recovered ++ asked) after node member reaches);
   }
 
   -- ---- a restart alone
 
-  pub crash_between : (steps : List Step) (recovered : List Bool) (seats : ℕ → Seat) (views : Views) (finds : Found → Type 0) (found : Found)
+  pub crash_between : (steps : List Step) (recovered : List Bool) (seats : ℕ → UpOrDown) (views : Views) (finds : Found → Type 0) (found : Found)
       → Reaches config sent steps recovered seats → seats node ≡ IsUp views → FindsOnly finds views.records → finds found
       → IsKeptThrough config sent steps [] recovered [] seats node found
   crash_between steps recovered seats views finds found reaches at only here = (
@@ -124,7 +124,7 @@ module _ (alone : StepsAlone) (steps_more : StepsMore) (keeps : KeepsRecords) (c
   record CutStep (views : Views) (due : Option Record) (cut : Event) : Type 0 where
     own : node_of cut ≡ node
     asked : IsAsked cut false
-    gives : SeatGives config sent (length sent) false (IsUp views) cut results.Done (IsDown views.records due)
+    gives : NodeGives config sent (length sent) false (IsUp views) cut results.Done (IsDown views.records due)
 
   cut_step : (views : Views) (due : Option Record) (cut : Event) (asked : Input) → IsCutOf sent node cut asked
       → InputKeeps config node views asked due → CutStep views due cut
@@ -134,17 +134,17 @@ module _ (alone : StepsAlone) (steps_more : StepsMore) (keeps : KeepsRecords) (c
   cut_step views due cut (input.Deliver m) (number, is, sent_is) kept =
       subst (CutStep views due) (sym is) (record { own = refl; asked = refl; gives = inl (m, slice_get_within sent number m sent_is, sent_is, (refl, (due, kept, refl))) })
 
-  pub crash_within : (steps : List Step) (recovered : List Bool) (seats : ℕ → Seat) (views : Views) (cut : Event) (asked : Input) (due : Option Record)
+  pub crash_within : (steps : List Step) (recovered : List Bool) (seats : ℕ → UpOrDown) (views : Views) (cut : Event) (asked : Input) (due : Option Record)
       (finds : Found → Type 0) (found : Found) → Reaches config sent steps recovered seats → seats node ≡ IsUp views
       → IsCutOf sent node cut asked → InputKeeps config node views asked due → FindsOnly finds views.records → MayBeLeft due finds found
       → IsKeptThrough config sent steps (done cut ∷ []) recovered (false ∷ []) seats node found
   crash_within steps recovered seats views cut asked due finds found reaches at is_cut kept only left =
       let step : CutStep views due cut = cut_step views due cut asked is_cut kept in
-      let down : ℕ → Seat = with_seat seats node (IsDown views.records due) in
+      let down : ℕ → UpOrDown = with_seat seats node (IsDown views.records due) in
       let was_found : (was : Bool) × (found ≡ Some (with_due was views.records due)) = found_after views.records finds found only due left in
       let was : Bool = was_found.0 in
       let records : List Record = with_due was views.records due in
-      let up : Seat = IsUp (started_with records) in
+      let up : UpOrDown = IsUp (started_with records) in
       let first : Reaches config sent (steps ++ done cut ∷ []) (recovered ++ false ∷ []) down =
       quiet steps recovered seats cut false (IsUp views) (IsDown views.records due) step.own reaches at step.gives step.asked in
       let second : Reaches config sent ((steps ++ done cut ∷ []) ++ done (event.Restart node) ∷ []) ((recovered ++ false ∷ []) ++ was ∷ []) (with_seat down node up) =

@@ -3,7 +3,7 @@ use Rattle.std.proofs.Common.{◌≡◌, inl, inr, ℕ, zero, suc, ◌+◌, ◌-
 use Rattle.std.proofs.lemmas.Option.{slice_get_cases}
 use Rattle.ballots.specs.Majority.{tally}
 use Rattle.ballots.specs.declared.value.Value.{Value}
-use Rattle.learner.specs.Calls.{Call as LearnerCall, IsLearned}
+use Rattle.learner.specs.Calls.{LearnerCall, IsLearned}
 use Rattle.learner.specs.State.{decided_at}
 use Rattle.agreement_rules.specs.Views.{Views, IsFree, HasPrefix}
 use Rattle.agreement.specs.State.{AgreementState, Has}

@@ -6,7 +6,7 @@ use Rattle.ballots.specs.declared.value.Value.{Value}
 use Rattle.table_types.specs.Uploads.{Upload}
 use Rattle.table_types.specs.Texts.{IsTextOf, AreUploadsOf}
 use Rattle.table_types.specs.Tables.{outcome_of, unknown}
-use Rattle.agreement_rules.specs.Views.{Config, Views, with_waiting, HasPrefix}
+use Rattle.agreement_rules.specs.Views.{AgreementConfig, Views, with_waiting, HasPrefix}
 use Rattle.histories.specs.Due.{AreStillWaiting}
 use Rattle.table_versions.specs.State.{TablesState, HasTaken, ReadyState, IsReadyFor}
 use Rattle.table_versions.specs.Values.{AreUploadsIn}
@@ -76,7 +76,7 @@ then_steps old new tables waiting step taken views after has leads =
     subst (NodeHas (node_of new tables waiting)) (sym leads.1) (record {
       agrees = taken.stands views has.agrees;
       values = has.values;
-      prefix = subst (λ (config : Config). HasPrefix config.members (learner_calls_with views step.change) has.values) (sym taken.config)
+      prefix = subst (λ (config : AgreementConfig). HasPrefix config.members (learner_calls_with views step.change) has.values) (sym taken.config)
           (subst (HasPrefix old.config.members (learner_calls_with views step.change)) (append-nil has.values) (leads.0 has.values has.prefix));
       taken = has.taken;
       waits = has.waits;
@@ -101,7 +101,7 @@ then_learns one learned encoding list old new tables full waiting left step read
     subst (NodeHas (node_of new full left)) (sym is) (record {
       agrees = has_whatever new (left_by views step.seen_round step.change) still (stepped.stands views has.agrees);
       values = values;
-      prefix = subst (λ (config : Config). HasPrefix config.members told values) (sym stepped.config) prefix;
+      prefix = subst (λ (config : AgreementConfig). HasPrefix config.members told values) (sym stepped.config) prefix;
       taken = taken;
       waits = still_one encoding uploads views.waiting left.texts still kept are-still;
       unknown = subst (λ (us : List Upload). AreStillWaiting us still still) (list (map value_bytes values) uploads taken.uploads are taken.are)
@@ -109,7 +109,7 @@ then_learns one learned encoding list old new tables full waiting left step read
     })
 
 -- a plan that is told by its parts leads where it leads
-pub leads_as : {step : Step} {ready : ReadyState} (config : Config) (views after : Views) (taken : Step) (made : ReadyState) → step ≡ taken → ready ≡ made
+pub leads_as : {step : Step} {ready : ReadyState} (config : AgreementConfig) (views after : Views) (taken : Step) (made : ReadyState) → step ≡ taken → ready ≡ made
     → LeadsTo config views (Learns taken made) after → LeadsTo config views (Learns step ready) after
 leads_as {step} {ready} config views after taken made same-step same-ready leads =
     subst (λ (s : Step). LeadsTo config views (Learns s ready) after) (sym same-step)

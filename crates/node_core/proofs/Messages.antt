@@ -8,14 +8,14 @@ use Rattle.ballots.specs.declared.value.Value.{Value}
 use Rattle.ballots.specs.declared.message.Message.{Message}
 use Rattle.ballots.specs.declared.message.Body.{Body}
 use Rattle.ballots.specs.declared.message.Body.TheVariants as body
-use Rattle.learner.specs.Calls.{Call as LearnerCall}
+use Rattle.learner.specs.Calls.{LearnerCall}
 use Rattle.table_types.specs.Uploads.{Upload}
 use Rattle.table_types.specs.Texts.{AreUploadsOf}
-use Rattle.agreement_rules.specs.Views.{Config, Views, with_waiting, HasPrefix}
+use Rattle.agreement_rules.specs.Views.{AgreementConfig, Views, with_waiting, HasPrefix}
 use Rattle.histories.specs.Texts.{HasUploads}
 use Rattle.agreement_rules.specs.Due.{Plan, quietly, also_learns, IsMessageOf, has_seen}
 use Rattle.histories.specs.Due.{Deliver, LearnsOf, BodyIsDue, AreStillWaiting}
-use Rattle.table_versions.specs.State.{ReadyState, IsReadyFor, values_limit}
+use Rattle.table_versions.specs.State.{ReadyState, IsReadyFor, agreed_values_limit}
 use Rattle.table_versions.specs.Values.{AreUploadsIn}
 use Rattle.agreement.specs.declared.step.AgreementStep.{AgreementStep as Step}
 use Rattle.agreement.specs.Step.{plan_of, Grows, BodyGives}
@@ -41,7 +41,7 @@ grown_twice members calls values [] prefix longer some = some refl
 grown_twice members calls values (value ∷ grown) prefix longer some =
     prefix.gap value (longer.learned (length values) value (at_seam values value grown))
 
-module _ (config : Config) (me : ℕ) (seen : Views) (sender slot : ℕ) where
+module _ (config : AgreementConfig) (me : ℕ) (seen : Views) (sender slot : ℕ) where
   abbrev BodyGrows : Plan → List Value → Type 0
   BodyGrows plan grown = Grows config.members seen.learner_calls plan.after.learner_calls grown
 
@@ -198,13 +198,13 @@ learning_planned join state views has m step ready is gives some is-ready =
 
 pub ready_fits : LearnedWhereSettled → SettledWhereLearned → HeldIsLearned → (state : NodeState) (views : Views) → NodeHas state views
     → (m : Message) (step : Step) → IsMessageOf state.agreement.config m → StepOf state views m step
-    → state.tables.taken + length step.grown.items ≤ values_limit
+    → state.tables.taken + length step.grown.items ≤ agreed_values_limit
 ready_fits learned settled held state views has m step is gives =
     let fits = body_fits learned settled held state.agreement views has.agrees state.agreement.me (has_seen views m) m.sender m.slot
     m.body (plan_of views step) step.grown.items refl is.slot gives has.values has.prefix in
     let taken = has.taken.taken_is in
     let slots = has.agrees.slots in
-    let top : suc max_slot ≡ values_limit = refl in
+    let top : suc max_slot ≡ agreed_values_limit = refl in
     omega (arith, fits, taken, slots, top)
 
 -- ---- whether values are none

@@ -3,7 +3,7 @@ use Rattle.std.proofs.Common.{◌≡◌, inl, inr, ℕ, ◌<◌, ◌≤◌, Opti
 use Rattle.std.proofs.lemmas.Bool.{cases_lt}
 use Rattle.std.proofs.lemmas.Option.{slice_get_cases}
 use Rattle.ballots.specs.declared.value.Value.{Value}
-use Rattle.learner.specs.Calls.{Call as LearnerCall, IsLearned}
+use Rattle.learner.specs.Calls.{LearnerCall, IsLearned}
 use Rattle.decided_log.specs.Decided.{IsPrefix}
 use Rattle.table_types.specs.Uploads.{Upload}
 use Rattle.table_versions.specs.Values.{AreUploadsIn}

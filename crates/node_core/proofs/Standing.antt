@@ -1,7 +1,7 @@
 -- A node whose parts stand as before stands as before, whatever room was made.
 use Rattle.std.proofs.Common.{◌≡◌, List, refl, sym, subst, ◌∙◌}
 use Rattle.ballots.specs.declared.value.Value.{Value}
-use Rattle.agreement_rules.specs.Views.{Config, Views, HasPrefix}
+use Rattle.agreement_rules.specs.Views.{AgreementConfig, Views, HasPrefix}
 use Rattle.table_versions.specs.Ledger.{FirstEntries, TableEntries, FrameEntries, IsLedger}
 use Rattle.table_versions.specs.State.{TablesState, HasTaken, IsSame}
 use Rattle.pending_uploads.specs.Waiting.{Waiting}
@@ -31,7 +31,7 @@ pub stands_on : (a b : AgreementState) (s t : TablesState) (v w : Waiting) → (
 stands_on a b s t v w agrees config same texts views has = record {
   agrees = agrees views has.agrees;
   values = has.values;
-  prefix = subst (λ (c : Config). HasPrefix c.members views.learner_calls has.values) (sym config) has.prefix;
+  prefix = subst (λ (c : AgreementConfig). HasPrefix c.members views.learner_calls has.values) (sym config) has.prefix;
   taken = same_tables s t has.values same has.taken;
   waits = texts ∙ has.waits;
   unknown = has.unknown;
@@ -50,7 +50,7 @@ can_commit a b s t v w agrees config same texts views has input planned is room 
   views = views;
   has = stands_on a b s t v w agrees config same texts views has;
   after = is.plan.after;
-  leads = subst (λ (c : Config). LeadsTo c views planned is.plan.after) (sym config) is.leads;
+  leads = subst (λ (c : AgreementConfig). LeadsTo c views planned is.plan.after) (sym config) is.leads;
 }
 
 -- an input and what is planned of it, told by their parts

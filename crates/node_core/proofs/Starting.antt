@@ -1,7 +1,7 @@
 -- A node that starts with its records and nothing else.
 use Rattle.std.proofs.Common.{◌≡◌, ℕ, List, [], ◌∷◌, ◌++◌, refl}
 use Rattle.ballots.specs.declared.record.Record.{Record}
-use Rattle.learner.specs.Calls.{Call as LearnerCall}
+use Rattle.learner.specs.Calls.{LearnerCall}
 use Rattle.agreement_rules.specs.Views.{started_with, HasPrefix}
 use Rattle.table_versions.specs.State.{TablesState, HasTaken}
 use Rattle.pending_uploads.specs.Waiting.{Waiting}

@@ -12,11 +12,11 @@ use Rattle.ballots.specs.declared.message.Body.{Body}
 use Rattle.ballots.specs.declared.message.Body.TheVariants as body
 use Rattle.acceptor.specs.declared.answer.Answer.{Answer}
 use Rattle.acceptor.specs.declared.answer.Answer.TheVariants as answer
-use Rattle.learner.specs.Calls.{Call as LearnerCall, slot_of, is_decision_for, is_vote_of, has_voted, IsChosenOrDecided, IsLearned}
+use Rattle.learner.specs.Calls.{LearnerCall, slot_of, is_decision_for, is_vote_of, has_voted, IsChosenOrDecided, IsLearned}
 use Rattle.learner.specs.Calls as learner_call
 use Rattle.learner.specs.State.{LearnerState, decided_at}
 use Rattle.learner.specs.Learned.{StateAfter}
-use Rattle.agreement_rules.specs.Views.{Config, Views, IsFree, HasPrefix}
+use Rattle.agreement_rules.specs.Views.{AgreementConfig, Views, IsFree, HasPrefix}
 use Rattle.agreement_rules.specs.Due.{Plan, quietly, also_learns, ReplyToPrepare, ReplyToAccept, PartIsDue}
 use Rattle.agreement.specs.State.{AgreementState, Has}
 use Rattle.agreement.specs.Step.{BodyGives}
@@ -106,10 +106,12 @@ pub prepared : (me : ℕ) (views : Views) (slot : ℕ) (ballot : Ballot) (reply 
 prepared me views slot ballot (answer.Promise report) plan is = ap (λ (p : Plan). p.after.learner_calls) is
 prepared me views slot ballot (answer.Nack promised) plan is = ap (λ (p : Plan). p.after.learner_calls) is
 prepared me views slot ballot answer.Granted plan is = absurd is
+prepared me views slot ballot (answer.PromiseFrom reports) plan is = absurd is
 
 pub accepted : (me : ℕ) (views : Views) (slot : ℕ) (proposal : Acceptance) (reply : Answer) (plan : Plan)
     → ReplyToAccept me views slot proposal reply plan → plan.after.learner_calls ≡ views.learner_calls
 accepted me views slot proposal (answer.Promise report) plan is = absurd is
+accepted me views slot proposal (answer.PromiseFrom reports) plan is = absurd is
 accepted me views slot proposal (answer.Nack promised) plan is = ap (λ (p : Plan). p.after.learner_calls) is
 accepted me views slot proposal answer.Granted plan is = ap (λ (p : Plan). p.after.learner_calls) is
 
@@ -120,7 +122,7 @@ pub record CallsOnce (views : Views) (slot : ℕ) (plan : Plan) : Type 0 where
   pub is : plan ≡ quietly (also_learns views call)
 
 -- or it is not called
-pub part_calls : (config : Config) (me : ℕ) (views : Views) (sender slot : ℕ) (said : Body) (plan : Plan)
+pub part_calls : (config : AgreementConfig) (me : ℕ) (views : Views) (sender slot : ℕ) (said : Body) (plan : Plan)
     → PartIsDue config me views sender slot said plan → (plan.after.learner_calls ≡ views.learner_calls) ⊎ CallsOnce views slot plan
 part_calls config me views sender slot (body.Prepare ballot) plan due = inl (prepared me views slot ballot due.2 plan due.5)
 part_calls config me views sender slot (body.Accept proposal) plan due = inl (accepted me views slot proposal due.2 plan due.5)

@@ -10,7 +10,7 @@ use Rattle.agreement.specs.declared.step.AgreementStep.{AgreementStep as Step}
 use Rattle.agreement.specs.State.{AgreementState}
 use Rattle.agreement.specs.Step.{kept_of, learner_calls_with, left_by, plan_of, Grows}
 use Rattle.agreement.specs.Step as step
-use Rattle.agreement_rules.specs.Views.{Config, Views, with_waiting, IsFreeAfter}
+use Rattle.agreement_rules.specs.Views.{AgreementConfig, Views, with_waiting, IsFreeAfter}
 use Rattle.histories.specs.Texts.{HasUploads}
 use Rattle.agreement_rules.specs.Due.{Plan, Plans, Refuses, IsMessageOf}
 use Rattle.histories.specs.Due.{Input, Put, Tick, Deliver, IsDue, AreStillWaiting, waits_too, Waits as WaitsAlready, IsKnown, IsUnknown}
@@ -41,7 +41,7 @@ sent_by (Learns taken ready) = taken.sends.items
 
 -- An upload waits, of which nothing is known. A step leads where it leaves the node, and the prefix grows by what the step
 -- tells; where it grows, the uploads of which something is then known wait no more.
-abbrev pub LeadsTo : Config → Views → Planned → Views → Type 0
+abbrev pub LeadsTo : AgreementConfig → Views → Planned → Views → Type 0
 LeadsTo config views Stays after = after ≡ views
 LeadsTo config views (Waits upload) after = IsUnknown config views.learner_calls upload × (after ≡ waits_too views upload)
 LeadsTo config views (Steps taken) after =
@@ -87,7 +87,7 @@ pub record IsPlanned (state : NodeState) (views : Views) (input : Input) (planne
   pub leads : LeadsTo state.agreement.config views planned plan.after
 
 -- no refusal is due: a message is of the configuration, and else there is a plan
-abbrev pub IsTaken : Config → ℕ → Views → Input → Type 0
+abbrev pub IsTaken : AgreementConfig → ℕ → Views → Input → Type 0
 IsTaken config me views (Put text) = (plan : Plan) × IsDue config me views (Put text) (Plans plan)
 IsTaken config me views (Tick left) = (plan : Plan) × IsDue config me views (Tick left) (Plans plan)
 IsTaken config me views (Deliver message) = IsMessageOf config message
@@ -116,7 +116,7 @@ JudgesPut state views text (Some refusal) =
     IsDue state.agreement.config state.agreement.me views (Put text) (Refuses (refusal_of refusal))
 
 -- an upload waits already, or something is known of it; or neither
-abbrev pub TellsKnown : Config → Views → List ℕ → Bool → Type 0
+abbrev pub TellsKnown : AgreementConfig → Views → List ℕ → Bool → Type 0
 TellsKnown config views text true = WaitsAlready views text ⊎ IsKnown config views.learner_calls text
 TellsKnown config views text false = (WaitsAlready views text → ⊥) × IsUnknown config views.learner_calls text
 
@@ -142,7 +142,7 @@ CannotBegin state slot refusal =
 -- ---- the slot of an attempt
 
 -- the slot that leaves so many free ones below it to others; there is none below the limit where that one is not
-abbrev pub IsSlotLeft : Config → Views → ℕ → Option ℕ → Type 0
+abbrev pub IsSlotLeft : AgreementConfig → Views → ℕ → Option ℕ → Type 0
 IsSlotLeft config views left (Some slot) = (slot < config.slot_limit) × IsFreeAfter config.members views.learner_calls left slot
 IsSlotLeft config views left None =
     (slot : ℕ) × (config.slot_limit ≤ slot) × IsFreeAfter config.members views.learner_calls left slot

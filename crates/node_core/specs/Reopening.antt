@@ -8,14 +8,14 @@ use Rattle.ballots.specs.declared.record.Record.{Record}
 use Rattle.stable_records.specs.declared.fault.StoreFault.{StoreFault}
 use Rattle.stable_records.specs.Found.{Found, FindsOnly, IsWithOrWithout}
 use Rattle.stable_records.specs.Calls.{Recalls, RaisesCount, ReadyAfterRecall}
-use Rattle.agreement_rules.specs.Views.{Config, started_with}
+use Rattle.agreement_rules.specs.Views.{AgreementConfig, started_with}
 use Rattle.histories.specs.Due.{Input}
 use Rattle.histories.specs.Due as input
 use Rattle.histories.specs.Event.{Event}
 use Rattle.histories.specs.Event as event
 use Rattle.histories.specs.EventResult as results
 use Rattle.histories.specs.History.{Step}
-use Rattle.histories.specs.Following.{Seat, IsUp, Reaches}
+use Rattle.histories.specs.Following.{UpOrDown, IsUp, Reaches}
 use Rattle.histories.specs.Owning.{own}
 use Rattle.histories.specs.Keeping.{AreKept}
 use Rattle.node_core.specs.State.{NodeState, CanStart, Starts}
@@ -35,7 +35,7 @@ pub record WereRecalled (tells : Bool) (old new : Found → Type 0) (records : L
 
 -- What a reopening gives: the node with the records that were recalled, and nothing else; or the recall failed; or the records
 -- are none of this member; or memory for the node was refused.
-abbrev pub ReopenGives : (tells : Bool) → Config → ℕ → (old new : Found → Type 0) → Result NodeState OpenFault → Type 0
+abbrev pub ReopenGives : (tells : Bool) → AgreementConfig → ℕ → (old new : Found → Type 0) → Result NodeState OpenFault → Type 0
 ReopenGives tells config me old new (Ok state) =
     (records : List Record) × WereRecalled tells old new records × Starts config me records state
 ReopenGives tells config me old new (Err (Store fault)) = IsTrue tells → Recalls (failed fault) old new
@@ -78,17 +78,17 @@ done e = record { event = e; result = results.Done }
 
 -- The history goes on by these steps, which leave the node up with these records, the ones that it kept in the whole history,
 -- and with nothing else; and all other nodes as they were.
-pub record GoesOnWith (config : Config) (sent : List Message) (steps more : List Step) (recovered asked : List Bool)
-    (seats : ℕ → Seat) (node : ℕ) (records : List Record) : Type 0 where
-  pub after : ℕ → Seat
+pub record GoesOnWith (config : AgreementConfig) (sent : List Message) (steps more : List Step) (recovered asked : List Bool)
+    (seats : ℕ → UpOrDown) (node : ℕ) (records : List Record) : Type 0 where
+  pub after : ℕ → UpOrDown
   pub reaches : Reaches config sent (steps ++ more) (recovered ++ asked) after
   pub opened : after node ≡ IsUp (started_with records)
   pub others : (other : ℕ) → other ≢ node → after other ≡ seats other
   pub kept : AreKept config (IsUp (started_with [])) (own node sent (steps ++ more) (recovered ++ asked)) records
 
 -- What is found is the records that the node kept in the history that goes on by these steps and a restart.
-abbrev pub IsKeptThrough : Config → List Message → (steps more : List Step) → (recovered asked : List Bool)
-    → (seats : ℕ → Seat) → (node : ℕ) → Found → Type 0
+abbrev pub IsKeptThrough : AgreementConfig → List Message → (steps more : List Step) → (recovered asked : List Bool)
+    → (seats : ℕ → UpOrDown) → (node : ℕ) → Found → Type 0
 IsKeptThrough config sent steps more recovered asked seats node found =
     (was : Bool) × (records : List Record) × (found ≡ Some records)
     × GoesOnWith config sent steps (more ++ done (event.Restart node) ∷ []) recovered (asked ++ was ∷ []) seats node records

@@ -8,7 +8,7 @@ use Rattle.ballots.specs.declared.record.Record.TheVariants.{Began, Promised, Ac
 use Rattle.agreement.specs.State.{AgreementState, Has}
 use Rattle.agreement.specs.declared.refusal.Refusal.{Refusal}
 use Rattle.agreement.specs.declared.refusal.Refusal.TheVariants.{OutOfRange, SlotsSpent, RoundsSpent, OutOfMemory}
-use Rattle.agreement_rules.specs.Views.{Config, Views, started_with, HasPrefix}
+use Rattle.agreement_rules.specs.Views.{AgreementConfig, Views, started_with, HasPrefix}
 use Rattle.histories.specs.Due.{AreStillWaiting}
 use Rattle.table_versions.specs.State.{TablesState, HasTaken}
 use Rattle.pending_uploads.specs.Waiting.{Waiting}
@@ -35,24 +35,24 @@ StandsAsBefore old new = (views : Views) → NodeHas old views → NodeHas new v
 -- ---- how a node starts
 
 -- every node and slot that it names is of the configuration
-abbrev pub IsRecordOf : Config → Record → Type 0
+abbrev pub IsRecordOf : AgreementConfig → Record → Type 0
 IsRecordOf config (Began ballot) = ballot.node < config.members
 IsRecordOf config (Promised slot ballot) = (slot < config.slot_limit) × (ballot.node < config.members)
 IsRecordOf config (Accepted slot acceptance) = (slot < config.slot_limit) × (acceptance.ballot.node < config.members)
 
 -- the node is a member, and its records are of the configuration
-pub record CanStart (config : Config) (me : ℕ) (records : List Record) : Type 0 where
+pub record CanStart (config : AgreementConfig) (me : ℕ) (records : List Record) : Type 0 where
   pub member : me < config.members
   pub records_are : AllByRecursion (IsRecordOf config) records
 
-pub record Starts (config : Config) (me : ℕ) (records : List Record) (state : NodeState) : Type 0 where
+pub record Starts (config : AgreementConfig) (me : ℕ) (records : List Record) (state : NodeState) : Type 0 where
   pub can : CanStart config me records
   pub me_is : state.agreement.me ≡ me
   pub config_is : state.agreement.config ≡ config
   pub has : NodeHas state (started_with records)
 
 -- what a start gives, memory apart
-abbrev pub OpenGives : Config → ℕ → List Record → Result NodeState Refusal → Type 0
+abbrev pub OpenGives : AgreementConfig → ℕ → List Record → Result NodeState Refusal → Type 0
 OpenGives config me records (Ok state) = Starts config me records state
 OpenGives config me records (Err OutOfRange) = CanStart config me records → ⊥
 OpenGives config me records (Err SlotsSpent) = ⊥

@@ -7,11 +7,11 @@ ghost use Rattle.stable_records.specs.declared.fault.StoreFault.{StoreFault};
 ghost use Rattle.stable_records.specs.Found.{Found, FindsOnly, IsWithOrWithout};
 ghost use Rattle.stable_records.specs.Calls.{LeftInKeep};
 ghost use Rattle.stable_records.specs.Moments.{AnyCrashLeaves};
-ghost use Rattle.agreement_rules.specs.Views.{Config, Views};
+ghost use Rattle.agreement_rules.specs.Views.{AgreementConfig, Views};
 ghost use Rattle.histories.specs.Due.{Input, InputKeeps};
 ghost use Rattle.histories.specs.Event.{Event};
 ghost use Rattle.histories.specs.History.{Step};
-ghost use Rattle.histories.specs.Following.{Seat, IsUp, Reaches};
+ghost use Rattle.histories.specs.Following.{UpOrDown, IsUp, Reaches};
 ghost use Rattle.node_core.specs.Reopening.{IsCutOf, MayBeLeft, done, IsKeptThrough};
 
 use histories::laws::{a_member_steps_alone, one_step_more_reaches, records_are_kept};
@@ -27,14 +27,14 @@ use stable_records::Stable;
 /// behind. `left` says that each store's own promise of a keep is enough for this: whatever the keep would have answered, a
 /// crash at any moment of it leaves the records with the new one or without.
 pub fn a_crash_is_a_cut<S: Stable>()
-    ensures within { (config : Config) (sent : List Message) (steps : List Step) (recovered : List Bool) (seats : ℕ → Seat)
+    ensures within { (config : AgreementConfig) (sent : List Message) (steps : List Step) (recovered : List Bool) (seats : ℕ → UpOrDown)
         (node : ℕ) (views : Views) (cut : Event) (asked : Input) (due : Option Record) (store : S) (found : Found)
         → node < config.members → Reaches config sent steps recovered seats → seats node ≡ IsUp views
         → IsCutOf sent node cut asked → InputKeeps config node views asked due → FindsOnly (S.finds store) views.records
         → MayBeLeft due (S.finds store) found
         → IsKeptThrough config sent steps (done cut ∷ []) recovered (false ∷ []) seats node found }
-    ensures between { (config : Config) (sent : List Message) (steps : List Step) (recovered : List Bool)
-        (seats : ℕ → Seat) (node : ℕ) (views : Views) (store : S) (found : Found) → node < config.members
+    ensures between { (config : AgreementConfig) (sent : List Message) (steps : List Step) (recovered : List Bool)
+        (seats : ℕ → UpOrDown) (node : ℕ) (views : Views) (store : S) (found : Found) → node < config.members
         → Reaches config sent steps recovered seats → seats node ≡ IsUp views
         → FindsOnly (S.finds store) views.records → S.finds store found
         → IsKeptThrough config sent steps [] recovered [] seats node found }

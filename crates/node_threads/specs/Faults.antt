@@ -1,14 +1,14 @@
 -- The faults of seats and of workers. Both are this service's own.
 use Rattle.seats.specs.parts.agreement.specs.declared.refusal.Refusal.TheVariants as refusal
-use Rattle.node_worker.specs.declared.workplace.Fault.{Fault}
-use Rattle.node_worker.specs.declared.workplace.Fault.TheVariants as fault
+use Rattle.node_worker.specs.declared.workplace.WorkplaceFault.{WorkplaceFault}
+use Rattle.node_worker.specs.declared.workplace.WorkplaceFault.TheVariants as fault
 use Rattle.node_worker.specs.declared.workplace.End.{End}
 use Rattle.node_worker.specs.declared.workplace.End.TheVariants as ending
 use Rattle.seats.specs.declared.fault.SeatFault.{SeatFault}
 use Rattle.seats.specs.declared.fault.SeatFault.TheVariants as seat
 
 -- a seat's fault, as a worker meets it
-abbrev pub worker_fault : SeatFault → Fault
+abbrev pub worker_fault : SeatFault → WorkplaceFault
 worker_fault seat.Down = fault.Down
 worker_fault seat.Strange = fault.Strange
 worker_fault seat.JournalFull = fault.JournalFull

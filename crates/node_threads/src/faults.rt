@@ -4,24 +4,24 @@ ghost use Rattle.std.specs.Prelude.{◌≡◌};
 ghost use Rattle.node_threads.specs.Faults.{worker_fault, seat_fault};
 
 use agreement::Refusal;
-use node_worker::{End, Fault};
+use node_worker::{End, WorkplaceFault};
 use seats::SeatFault;
 
 /// A seat's fault, as a worker meets it.
-pub(crate) fn fault_of(fault: SeatFault) -> Fault
+pub(crate) fn fault_of(fault: SeatFault) -> WorkplaceFault
     ensures { result ≡ worker_fault fault }
 {
     match fault {
-        SeatFault::Down => Fault::Down,
-        SeatFault::Strange => Fault::Strange,
-        SeatFault::JournalFull => Fault::JournalFull,
-        SeatFault::NotSent => Fault::NotSent,
-        SeatFault::Refused(Refusal::OutOfRange) => Fault::OutOfRange,
-        SeatFault::Refused(Refusal::SlotsSpent) => Fault::SlotsSpent,
-        SeatFault::Refused(Refusal::RoundsSpent) => Fault::RoundsSpent,
-        SeatFault::Refused(Refusal::OutOfMemory) => Fault::OutOfMemory,
-        SeatFault::Store(why) => Fault::Store(why),
-        SeatFault::Lost => Fault::Lost,
+        SeatFault::Down => WorkplaceFault::Down,
+        SeatFault::Strange => WorkplaceFault::Strange,
+        SeatFault::JournalFull => WorkplaceFault::JournalFull,
+        SeatFault::NotSent => WorkplaceFault::NotSent,
+        SeatFault::Refused(Refusal::OutOfRange) => WorkplaceFault::OutOfRange,
+        SeatFault::Refused(Refusal::SlotsSpent) => WorkplaceFault::SlotsSpent,
+        SeatFault::Refused(Refusal::RoundsSpent) => WorkplaceFault::RoundsSpent,
+        SeatFault::Refused(Refusal::OutOfMemory) => WorkplaceFault::OutOfMemory,
+        SeatFault::Store(why) => WorkplaceFault::Store(why),
+        SeatFault::Lost => WorkplaceFault::Lost,
     }
 }
 

@@ -11,7 +11,7 @@ use crate::locks::Locks;
 use crate::settled::Settled;
 use crate::steps::Taken;
 use ballots::Message;
-use node_worker::{End, Fault, Note, PutId, Sent, WorkInput, Workplace};
+use node_worker::{End, Note, PutId, Sent, WorkInput, Workplace, WorkplaceFault};
 use seats::{Beginning, Retention, SeatFault, SeatInput};
 use stable_records::Stable;
 use std::sync::Wait;
@@ -84,7 +84,7 @@ impl<'a, const N: usize, R: Wait, S: Stable + Drop, J: Beginning, G: Gate, M: Re
         }
     }
 
-    fn hand(&mut self, input: WorkInput) -> Result<Sent, Fault> {
+    fn hand(&mut self, input: WorkInput) -> Result<Sent, WorkplaceFault> {
         match self.locks.take(self.rt, self.gate, input_of(input)) {
             Ok(taken) => Ok(sent_by(taken)),
             Err(fault) => Err(fault_of(fault)),
@@ -105,12 +105,12 @@ impl<'a, const N: usize, R: Wait, S: Stable + Drop, J: Beginning, G: Gate, M: Re
         self.desk.find(self.rt, place)
     }
 
-    fn enter(&mut self, put: PutId) -> Result<Option<Settled>, Fault> {
+    fn enter(&mut self, put: PutId) -> Result<Option<Settled>, WorkplaceFault> {
         let Some(upload) = self.desk.upload(self.rt, put) else {
             return Ok(None);
         };
         let Ok(upload) = upload else {
-            return Err(Fault::OutOfMemory);
+            return Err(WorkplaceFault::OutOfMemory);
         };
         match self.locks.settle(self.rt, self.gate, &upload) {
             Ok(known) => Ok(known),

@@ -3,7 +3,7 @@ use Rattle.std.specs.Prelude.{◌≡◌, ℕ, zero, suc, Bool, Option, Result, L
 use Rattle.ballots.specs.declared.message.Message.{Message}
 use Rattle.node_worker.specs.declared.workplace.WorkInput.{WorkInput as Inputs}
 use Rattle.node_worker.specs.declared.workplace.Sent.{Sent}
-use Rattle.node_worker.specs.declared.workplace.Fault.{Fault}
+use Rattle.node_worker.specs.declared.workplace.WorkplaceFault.{WorkplaceFault}
 use Rattle.node_worker.specs.declared.workplace.End.{End}
 use Rattle.node_worker.specs.declared.workplace.PutId.{PutId}
 
@@ -12,11 +12,11 @@ use Rattle.node_worker.specs.declared.workplace.PutId.{PutId}
 -- a put, and entered that; answered a put; looked whether any waits. What is told of a put that was entered is a T.
 pub data Deed (T : Type 0) : Type 0 where
   Read : (number : ℕ) → Option Message → Deed T
-  Handed : Inputs → Result Sent Fault → Deed T
+  Handed : Inputs → Result Sent WorkplaceFault → Deed T
   Told : (node number : ℕ) → Deed T
   Counted : ℕ → Deed T
   Found : (place : ℕ) → Option PutId → Deed T
-  Entered : PutId → Result (Option T) Fault → Deed T
+  Entered : PutId → Result (Option T) WorkplaceFault → Deed T
   Answered : PutId → Result T End → Deed T
   Looked : Bool → Deed T
 

@@ -86,12 +86,12 @@ wait_after happened = max (wait_behind (asked happened)) (wait_behind (tried hap
 -- ---- its attempts
 
 -- an attempt for a slot at a ballot, and the messages that came since it began, the latest first
-pub record Begun : Type 0 where
+pub record WatchedAttempt : Type 0 where
   pub slot : ℕ
   pub ballot : Ballot
   pub since : List Message
 
-abbrev pub begins_by : ℕ → Body → Option Begun
+abbrev pub begins_by : ℕ → Body → Option WatchedAttempt
 begins_by slot (body.Prepare ballot) = Some (record { slot = slot; ballot = ballot; since = [] })
 begins_by slot (body.Promise ballot report) = None
 begins_by slot (body.Nack ballot promised) = None
@@ -101,15 +101,15 @@ begins_by slot body.Ask = None
 begins_by slot (body.Decided value) = None
 
 -- the attempt that a tick begins with the message that it sends
-abbrev pub begins : Option Message → Option Begun
+abbrev pub begins : Option Message → Option WatchedAttempt
 begins None = None
 begins (Some message) = begins_by message.slot message.body
 
-abbrev pub with_message : Message → Begun → Begun
+abbrev pub with_message : Message → WatchedAttempt → WatchedAttempt
 with_message message begun = record { slot = begun.slot; ballot = begun.ballot; since = message ∷ begun.since }
 
 -- the latest attempt
-abbrev pub begun_in : List Happening → Option Begun
+abbrev pub begun_in : List Happening → Option WatchedAttempt
 begun_in [] = None
 begun_in (Passed time ∷ before) = begun_in before
 begun_in (Came message ∷ before) = option_map (with_message message) (begun_in before)
@@ -156,15 +156,15 @@ abbrev pub accepts : ℕ → Ballot → Message → Bool
 accepts slot ballot message = message.slot == slot && accepts_by ballot message.body
 
 -- the node accepted it
-abbrev pub has_accepted : Begun → ℕ → Bool
+abbrev pub has_accepted : WatchedAttempt → ℕ → Bool
 has_accepted begun node = list_any (λ message. message.sender == node && accepts begun.slot begun.ballot message) begun.since
 
 -- a majority of the members accepted it
-abbrev pub is_accepted : ℕ → Begun → Bool
+abbrev pub is_accepted : ℕ → WatchedAttempt → Bool
 is_accepted members begun = nat_lt members (2 * tally members (has_accepted begun))
 
 -- it was not refused, nothing was decided for its slot, and no majority accepted it
-abbrev pub is_open : ℕ → Begun → Bool
+abbrev pub is_open : ℕ → WatchedAttempt → Bool
 is_open members begun =
     not (list_any (refuses begun.slot begun.ballot) begun.since)
     && (not (list_any (decides begun.slot) begun.since) && not (is_accepted members begun))
@@ -176,7 +176,7 @@ lost_by members slot ballot (message ∷ since) =
     || (is_open members (record { slot = slot; ballot = ballot; since = since }) && refuses slot ballot message)
 
 -- it was refused while it was open
-abbrev pub is_lost : ℕ → Begun → Bool
+abbrev pub is_lost : ℕ → WatchedAttempt → Bool
 is_lost members begun = lost_by members begun.slot begun.ballot begun.since
 
 -- ---- what is due
@@ -207,14 +207,14 @@ pub record PaceState : Type 0 where
   pub attempt_wait : ℕ
 
 -- it is that attempt, and open
-pub record IsAttempt (members : ℕ) (begun : Begun) (attempt : Attempt) : Type 0 where
+pub record IsAttempt (members : ℕ) (begun : WatchedAttempt) (attempt : Attempt) : Type 0 where
   pub slot_is : attempt.slot ≡ begun.slot
   pub ballot_is : attempt.ballot ≡ begun.ballot
   pub open_is : is_open members begun ≡ true
   pub accepted : (node : ℕ) → contains attempt.accepted node ≡ has_accepted begun node
 
 -- the latest attempt, where it is open
-abbrev pub AreAttempts : ℕ → Option Begun → Option Attempt → Type 0
+abbrev pub AreAttempts : ℕ → Option WatchedAttempt → Option Attempt → Type 0
 AreAttempts members None None = Unit {0}
 AreAttempts members None (Some attempt) = ⊥
 AreAttempts members (Some begun) None = is_open members begun ≡ false

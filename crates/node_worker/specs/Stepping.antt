@@ -8,8 +8,8 @@ use Rattle.node_worker.specs.declared.workplace.Note.TheVariants as note
 use Rattle.node_worker.specs.declared.workplace.WorkInput.{WorkInput as Inputs}
 use Rattle.node_worker.specs.declared.workplace.WorkInput.TheVariants as inputs
 use Rattle.node_worker.specs.declared.workplace.Sent.{Sent}
-use Rattle.node_worker.specs.declared.workplace.Fault.{Fault}
-use Rattle.node_worker.specs.declared.workplace.Fault.TheVariants as fault
+use Rattle.node_worker.specs.declared.workplace.WorkplaceFault.{WorkplaceFault}
+use Rattle.node_worker.specs.declared.workplace.WorkplaceFault.TheVariants as fault
 use Rattle.node_worker.specs.declared.workplace.End.{End}
 use Rattle.node_worker.specs.declared.workplace.End.TheVariants as ending
 use Rattle.node_worker.specs.declared.workplace.PutId.{PutId}
@@ -31,7 +31,7 @@ TellsAll nodes sent deeds = ForEach (λ k own. TellsEach nodes (sent.first + k) 
 -- ---- faults
 
 -- How the puts that wait end where their node met this fault; not at all where its later inputs need not meet it too.
-abbrev pub end_for : Fault → Option End
+abbrev pub end_for : WorkplaceFault → Option End
 end_for fault.Down = Some ending.Down
 end_for fault.Strange = Some (ending.Store Damaged)
 end_for fault.JournalFull = Some ending.JournalFull
@@ -64,14 +64,14 @@ EndsPut put None deeds = deeds ≡ []
 EndsPut put (Some end) deeds = deeds ≡ Answered put (Err end) ∷ []
 
 -- A put is answered what was entered for it, or the fault that was met, and not at all where nothing is known of it.
-abbrev pub AnswersAs : {T : Type 0} → PutId → Result (Option T) Fault → List (Deed T) → Type 0
+abbrev pub AnswersAs : {T : Type 0} → PutId → Result (Option T) WorkplaceFault → List (Deed T) → Type 0
 AnswersAs put (Ok (Some told)) deeds = deeds ≡ Answered put (Ok told) ∷ []
 AnswersAs put (Ok None) deeds = deeds ≡ []
 AnswersAs put (Err why) deeds = EndsPut put (end_for why) deeds
 
 abbrev pub Settles : {T : Type 0} → PutId → List (Deed T) → Type 0
 Settles {T} put deeds =
-    (known : Result (Option T) Fault) × (rest : List (Deed T)) × (deeds ≡ Entered put known ∷ rest) × AnswersAs put known rest
+    (known : Result (Option T) WorkplaceFault) × (rest : List (Deed T)) × (deeds ≡ Entered put known ∷ rest) × AnswersAs put known rest
 
 abbrev pub LooksAt : {T : Type 0} → ℕ → List (Deed T) → Type 0
 LooksAt {T} place deeds =
@@ -85,13 +85,13 @@ LooksAtEach {T} deeds = (places : ℕ) × (rest : List (Deed T)) × (deeds ≡ C
 -- ---- inputs
 
 -- what goes out is told to all, and a fault ends the puts that it ends
-abbrev pub AfterHanding : {T : Type 0} → ℕ → Result Sent Fault → Option Sent → List (Deed T) → Type 0
+abbrev pub AfterHanding : {T : Type 0} → ℕ → Result Sent WorkplaceFault → Option Sent → List (Deed T) → Type 0
 AfterHanding nodes (Ok sent) told deeds = (told ≡ Some sent) × TellsAll nodes sent deeds
 AfterHanding nodes (Err why) told deeds = (told ≡ None) × EndsFor (end_for why) deeds
 
 abbrev pub Hands : {T : Type 0} → ℕ → Inputs → Option Sent → List (Deed T) → Type 0
 Hands {T} nodes input told deeds =
-    (gave : Result Sent Fault) × (rest : List (Deed T)) × (deeds ≡ Handed input gave ∷ rest) × AfterHanding nodes gave told rest
+    (gave : Result Sent WorkplaceFault) × (rest : List (Deed T)) × (deeds ≡ Handed input gave ∷ rest) × AfterHanding nodes gave told rest
 
 -- the node is handed just the message of this number, if it could be read
 abbrev pub Hears : {T : Type 0} → ℕ → ℕ → List Happening → List (Deed T) → List Happening → Type 0

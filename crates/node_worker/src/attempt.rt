@@ -1,7 +1,7 @@
 //! An attempt that a node began.
 
 ghost use Rattle.std.specs.Prelude.{◌≡◌, ℕ, Some, []};
-ghost use Rattle.node_worker.specs.Paces.{Begun, IsAttempt, AreAttempts, with_message, refuses, decides, accepts};
+ghost use Rattle.node_worker.specs.Paces.{WatchedAttempt, IsAttempt, AreAttempts, with_message, refuses, decides, accepts};
 
 use ballots::{Ballot, Body, Members, Message, NodeSet, Slot};
 
@@ -58,7 +58,7 @@ impl Attempt {
 
     /// What is left of it behind the message, `None` where it is over.
     pub(crate) fn after(self, members: Members, message: &Message) -> Option<Attempt>
-        ensures { (begun : Begun) → IsAttempt members begun self
+        ensures { (begun : WatchedAttempt) → IsAttempt members begun self
             → AreAttempts members (Some (with_message message.now begun)) result }
     {
         if self.is_refused_by(message) || self.is_decided_by(message) {

@@ -22,4 +22,4 @@ mod workplace;
 pub use pace::{LONGEST_WAIT_MILLISECONDS, LOOK_MILLISECONDS, Pace};
 pub use settling::{end_each, end_of, look_at_each};
 pub use stepping::{Next, step};
-pub use workplace::{End, Fault, Note, PutId, Sent, WorkInput, Workplace};
+pub use workplace::{End, Note, PutId, Sent, WorkInput, Workplace, WorkplaceFault};

@@ -4,22 +4,22 @@ ghost use Rattle.std.specs.Prelude.{◌≡◌, List};
 ghost use Rattle.node_worker.specs.Deeds.{Deed, Did};
 ghost use Rattle.node_worker.specs.Stepping.{end_for, EndsAt, EndsEach, Settles, LooksAt, LooksAtEach};
 
-use crate::workplace::{End, Fault, PutId, Workplace};
+use crate::workplace::{End, PutId, Workplace, WorkplaceFault};
 use stable_records::StoreFault;
 
 /// The end of all puts that wait at a node which met this fault, `None` where the node's later inputs need not meet it too.
-/// [`Fault::Strange`] and [`Fault::Lost`] are told as a store's.
-pub fn end_of(fault: Fault) -> Option<End>
+/// [`WorkplaceFault::Strange`] and [`WorkplaceFault::Lost`] are told as a store's.
+pub fn end_of(fault: WorkplaceFault) -> Option<End>
     ensures { result ≡ end_for fault }
 {
     match fault {
-        Fault::Down => Some(End::Down),
-        Fault::SlotsSpent => Some(End::SlotsSpent),
-        Fault::RoundsSpent => Some(End::RoundsSpent),
-        Fault::JournalFull => Some(End::JournalFull),
-        Fault::Store(why) => Some(End::Store(why)),
-        Fault::Strange | Fault::Lost => Some(End::Store(StoreFault::Damaged)),
-        Fault::NotSent | Fault::OutOfRange | Fault::OutOfMemory => None,
+        WorkplaceFault::Down => Some(End::Down),
+        WorkplaceFault::SlotsSpent => Some(End::SlotsSpent),
+        WorkplaceFault::RoundsSpent => Some(End::RoundsSpent),
+        WorkplaceFault::JournalFull => Some(End::JournalFull),
+        WorkplaceFault::Store(why) => Some(End::Store(why)),
+        WorkplaceFault::Strange | WorkplaceFault::Lost => Some(End::Store(StoreFault::Damaged)),
+        WorkplaceFault::NotSent | WorkplaceFault::OutOfRange | WorkplaceFault::OutOfMemory => None,
     }
 }
 

@@ -37,7 +37,7 @@ pub struct Sent {
 
 /// Why a node did nothing with what it was handed, or was cut off in the midst of it.
 #[derive(Clone, Copy, Debug, PartialEq, Eq)]
-pub enum Fault {
+pub enum WorkplaceFault {
     /// The node is down.
     Down,
     /// What the journal has of the node is not what the node did.
@@ -106,7 +106,7 @@ pub trait Workplace {
         ensures { does self.old (Read number result) self.new };
 
     /// Hands an input to the node, and gives the numbers of the messages that went out.
-    fn hand(&mut self, input: WorkInput) -> Result<Sent, Fault>
+    fn hand(&mut self, input: WorkInput) -> Result<Sent, WorkplaceFault>
         ensures { does self.old (Handed input result) self.new };
 
     /// Tells the worker of a node that the message of this number was sent.
@@ -123,7 +123,7 @@ pub trait Workplace {
 
     /// Asks the node what has become of a put, and enters the question with its outcome where that is known; `None`, and
     /// nothing is entered, where it is not.
-    fn enter(&mut self, put: PutId) -> Result<Option<Self::Settled>, Fault>
+    fn enter(&mut self, put: PutId) -> Result<Option<Self::Settled>, WorkplaceFault>
         ensures { does self.old (Entered put result) self.new };
 
     /// Tells whoever handed in the put how it ends, and it waits no more.

@@ -1,4 +1,4 @@
-//! The calls of an acceptor (Lamport, *Paxos Made Simple*, section 2.2).
+//! The calls of an acceptor (Lamport, *Paxos Made Simple*, sections 2.2 and 3).
 
 use crate::{shown, words};
 use acceptor::{Acceptor, Answer as Reply};
@@ -18,7 +18,9 @@ pub(crate) fn answer(
         "new" => make(alloc, acceptor, words),
         "take" => take(alloc, acceptor, words),
         "hand" => ask(alloc, acceptor, words, answer),
+        "hand-from" => prepare_from(alloc, acceptor, words, answer),
         "would-grant" => would_grant(alloc, acceptor, words, answer),
+        "would-promise-from" => would_promise_from(alloc, acceptor, words, answer),
         "promised" => promised(alloc, acceptor, words, answer),
         "accepted" => accepted(alloc, acceptor, words, answer),
         _ => Err(RequestFault::BadRequest),
@@ -87,6 +89,27 @@ fn prepare(
     show(alloc, &reply, answer)
 }
 
+// Hands it the ballot of a Prepare, for all slots from the Prepare's on.
+fn prepare_from(
+    alloc: Global,
+    acceptor: &mut Acceptor,
+    words: &mut Words<'_>,
+    answer: &mut Response,
+) -> Result<(), RequestFault> {
+    let (slot, ballot) = prepare_of(alloc, words)?;
+    let reply = acceptor.on_prepare_from(slot, ballot)?;
+    show(alloc, &reply, answer)
+}
+
+// The slot and the ballot of the Prepare that the next word is.
+fn prepare_of(alloc: Global, words: &mut Words<'_>) -> Result<(Slot, Ballot), RequestFault> {
+    let message = words::message(alloc, words)?;
+    match &message.body {
+        Body::Prepare { ballot } => Ok((message.slot, *ballot)),
+        _ => Err(RequestFault::BadRequest),
+    }
+}
+
 fn accept(
     alloc: Global,
     acceptor: &mut Acceptor,
@@ -105,12 +128,27 @@ fn show(alloc: Global, reply: &Reply, answer: &mut Response) -> Result<(), Reque
             answer.word("Promise")?;
             shown::acceptance(alloc, report, answer)
         }
+        Reply::PromiseFrom(reports) => show_reports(alloc, reports, answer),
         Reply::Granted => answer.word("Granted"),
         Reply::Nack(promised) => {
             answer.word("Nack")?;
             shown::ballot(alloc, *promised, answer)
         }
     }
+}
+
+// Puts what a promise of all slots from a first one on reports: slots, ballots and values.
+fn show_reports(
+    alloc: Global,
+    reports: &[(Slot, Acceptance)],
+    answer: &mut Response,
+) -> Result<(), RequestFault> {
+    answer.word("PromiseFrom")?;
+    for (slot, report) in reports {
+        answer.number(u64::from(slot.number()))?;
+        shown::acceptance(alloc, report, answer)?;
+    }
+    Ok(())
 }
 
 // Whether it would grant a Prepare or an Accept.
@@ -131,6 +169,17 @@ fn would_take(acceptor: &Acceptor, message: &Message) -> Result<bool, RequestFau
         Body::Accept(proposal) => Ok(acceptor.would_grant(slot, proposal.ballot)),
         _ => Err(RequestFault::BadRequest),
     }
+}
+
+// Whether it would promise the ballot of a Prepare for all slots from the Prepare's on.
+fn would_promise_from(
+    alloc: Global,
+    acceptor: &Acceptor,
+    words: &mut Words<'_>,
+    answer: &mut Response,
+) -> Result<(), RequestFault> {
+    let (slot, ballot) = prepare_of(alloc, words)?;
+    shown::whether(acceptor.would_promise_from(slot, ballot), answer)
 }
 
 // The ballot that it promised for the slot, if any.

@@ -14,6 +14,7 @@ mod acceptors;
 mod encodings;
 mod explaining;
 mod histories;
+mod leaders;
 mod learners;
 mod logs;
 mod proposers;

@@ -1,6 +1,6 @@
 //! The calls of a proposer (Lamport, *Paxos Made Simple*, section 2.2). Each is told beforehand what it will give.
 
-use crate::{shown, words};
+use crate::{leaders, shown, words};
 use ballots::{Acceptance, Ballot, Body, NodeId, Slot, Value};
 use proposer::{Proposer, RoundsSpent};
 use std::alloc::Global;
@@ -17,7 +17,11 @@ pub(crate) fn answer(
     match words.next() {
         "new" => make(proposer, words),
         "begin" => begin(alloc, proposer, words, answer),
+        "begin-from" => leaders::begin(alloc, proposer, words, answer),
         "hand" => tell(alloc, proposer, words, answer),
+        "hand-from" => leaders::tell(alloc, proposer, words, answer),
+        "go-on" => leaders::go_on(alloc, proposer, words, answer),
+        "next" => leaders::next(proposer, answer),
         "attempt" => attempt(alloc, proposer, answer),
         _ => Err(RequestFault::BadRequest),
     }
@@ -61,7 +65,8 @@ fn begin_with(
     show_begun(alloc, foretold, begun, answer)
 }
 
-fn show_begun(
+/// Puts the ballot that was begun, or why none was.
+pub(crate) fn show_begun(
     alloc: Global,
     foretold: Result<Ballot, RoundsSpent>,
     begun: Result<Ballot, RoundsSpent>,
@@ -125,7 +130,8 @@ fn promise(
     show_accept(alloc, &given, answer)
 }
 
-fn show_accept(
+/// Puts the slot, the ballot and the value of the Accept, where there is one.
+pub(crate) fn show_accept(
     alloc: Global,
     accept: &Option<(Slot, Ballot, Value)>,
     answer: &mut Response,

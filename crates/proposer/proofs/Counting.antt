@@ -6,11 +6,10 @@ use Rattle.std.proofs.lemmas.Grind.{common_steps}
 use Rattle.std.proofs.lemmas.List.Folds.{list_any-append}
 use Rattle.std.proofs.lemmas.List.Elements.{filter-append, filter_map-append}
 use Rattle.ballots.specs.declared.value.Value.{Value}
-use Rattle.ballots.specs.Ballot.{Ballot}
 use Rattle.ballots.specs.Majority.{NodeSet, contains, members_in, IsMajority}
 use Rattle.ballots.proofs.CallerLemmas.{majority_stays, majority_same, none_is_no_majority}
 use Rattle.proposer.specs.declared.attempt.Attempt.{Attempt}
-use Rattle.proposer.specs.declared.attempt.Choice.{Choice}
+use Rattle.proposer.specs.declared.choice.Choice.{Choice}
 use Rattle.proposer.specs.Call.{Promise}
 use Rattle.proposer.specs.Choosing.{is_from, is_sender, HasMajority, first_of_each, reports_of, Chooses}
 use Rattle.proposer.specs.Counting.{IsBest, ChoiceAfter, Counts, AnswersAtMajority, IsNew}
@@ -88,11 +87,11 @@ reports-new promises promise is =
 -- ---- an attempt
 
 -- nothing is counted at the begin
-pub counts_nothing : (members slot : ℕ) (ballot : Ballot) (candidate : Value) (nobody : NodeSet) → ((node : ℕ) → contains nobody node ≡ false)
-    → Counts members candidate [] (record { slot = slot; ballot = ballot; counted = nobody; choice = Some (record { reported_at = None; value = candidate }) })
-counts_nothing members slot ballot candidate nobody empty = record {
+pub counts_nothing : (members : ℕ) (candidate : Value) (first : Choice) (attempt : Attempt) → ((node : ℕ) → contains attempt.counted node ≡ false) → attempt.choice ≡ Some first
+    → IsBest candidate [] first.reported_at first.value → Counts members candidate [] attempt
+counts_nothing members candidate first attempt empty is is_best = record {
   senders = λ node lt. empty node;
-  choice = (none_is_no_majority members, (refl, refl));
+  choice = rw is (none_is_no_majority members, is_best);
 }
 
 module _ (members : ℕ) (candidate : Value) (promises : List Promise) (promise : Promise) (attempt : Attempt)

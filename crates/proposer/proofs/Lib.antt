@@ -1,12 +1,17 @@
 pub mod Lists
 pub mod Highest
+pub mod Rising
+pub mod Keeping
 pub mod Counting
 pub mod Results
 pub mod Opening
 pub mod Standing
+pub mod Going
 pub mod Answering
 pub mod Once
 pub mod Members
 pub mod Attempts
 pub mod Majority
 pub mod Staying
+pub mod Further
+pub mod Turns

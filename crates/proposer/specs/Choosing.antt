@@ -9,8 +9,8 @@ use Rattle.ballots.specs.declared.value.Value.{Value}
 use Rattle.proposer.specs.Call.{Promise}
 
 -- what a promise reports: an acceptance of its sender
-abbrev pub Report : Type 0
-Report = Acceptance
+abbrev pub PromiseReport : Type 0
+PromiseReport = Acceptance
 
 abbrev pub is_from : ℕ → Promise → Bool
 is_from node promise = promise.sender == node
@@ -30,19 +30,19 @@ first_of_each (promise ∷ promises) =
     promise ∷ filter (λ other. not (is_from promise.sender other)) (first_of_each promises)
 
 -- what they report, in their order
-abbrev pub reports_of : List Promise → List Report
+abbrev pub reports_of : List Promise → List PromiseReport
 reports_of promises = filter_map (λ promise. promise.report) promises
 
 -- the first of the highest ballot among them: those before it are below it, and those after it are not above it
-pub record IsHighest (reports : List Report) (report : Report) : Type 0 where
-  pub before : List Report
-  pub after : List Report
+pub record IsHighest (reports : List PromiseReport) (report : PromiseReport) : Type 0 where
+  pub before : List PromiseReport
+  pub after : List PromiseReport
   pub split : reports ≡ before ++ report ∷ after
   pub above_those_before : AllByRecursion (λ other. IsBelow other.ballot report.ballot) before
   pub not_below_those_after : AllByRecursion (λ other. IsBelow report.ballot other.ballot → ⊥) after
 
 -- The value of the highest report, or the candidate where nothing is reported.
-abbrev pub Chooses : Value → List Report → Value → Type 0
+abbrev pub Chooses : Value → List PromiseReport → Value → Type 0
 Chooses candidate reports value =
     ((reports ≡ []) × (value ≡ candidate))
     ⊎ ((ballot : Ballot) × IsHighest reports (record { ballot = ballot; value = value }))

@@ -1,6 +1,9 @@
 pub mod Call
 pub mod Choosing
+pub mod Reporting
 pub mod Attempting
+pub mod GoingOn
 pub mod Promised
+pub mod Kept
 pub mod Counting
 pub mod State

@@ -1,10 +1,10 @@
 ghost use Rattle.std.specs.Prelude.{◌≡◌, ℕ, ◌≤◌, ◌++◌, ◌∷◌, [], List, max, Option, Some, None};
 ghost use Rattle.std.specs.Prelude.{IfOk, OnErr, IsErr, IsTrue, ◌↔◌};
 ghost use Rattle.ballots.specs.Limits.{max_round};
-ghost use Rattle.proposer.specs.Call.{Start, Begins, Promises, Nacks, Call};
+ghost use Rattle.proposer.specs.Call.{Start, OneSlot, Begins, Promises, Nacks, ProposerCall};
 ghost use Rattle.proposer.specs.Attempting.{highest_begun, next_ballot, IsAttempt, Answers, HasItsMajority};
 ghost use Rattle.proposer.specs.Counting.{IsAt};
-ghost use Rattle.proposer.specs.State.{StateAfter, HasHistory, Holds, HoldsOpen, attempt_of};
+ghost use Rattle.proposer.specs.State.{StateAfter, HasHistory, Holds, HoldsOpen, attempt_of, IsRefusedBy};
 
 use crate::attempt::Attempt;
 use ballots::{Acceptance, Ballot, Members, NodeId, OutOfMemory, Slot, Value};
@@ -16,13 +16,14 @@ use thiserror::Error;
 #[error("RoundsSpent")]
 pub struct RoundsSpent;
 
-/// A proposer of one node: at most one attempt at a time, to have a value accepted for one slot.
+/// A proposer of one node: at most one attempt at a time, to have a value accepted for one slot, or for each slot from
+/// one on.
 #[derive(Debug, Drop)]
 pub struct Proposer {
-    me: NodeId,
-    members: Members,
-    highest_round: u32,
-    attempt: Option<Attempt>,
+    pub(crate) me: NodeId,
+    pub(crate) members: Members,
+    pub(crate) highest_round: u32,
+    pub(crate) attempt: Option<Attempt>,
 }
 
 impl Model for Proposer {
@@ -58,12 +59,13 @@ impl Proposer {
         }
     }
 
-    /// The slot and the ballot of the open attempt, `None` where none is open. An attempt stays open after its
-    /// majority. Each proposer has a history: it was made, and some calls left it as it is.
+    /// The slot and the ballot of the open attempt, its first slot where it is for all from one on, `None` where none
+    /// is open. An attempt stays open after its majority. Each proposer has a history: it was made, and some calls left
+    /// it as it is.
     pub fn attempt(&self) -> Option<(Slot, Ballot)>
         ensures value { result ≡ attempt_of self.now }
         ensures history { HasHistory self.now }
-        ensures open { (start : Start) (calls : List Call) → StateAfter start calls self.now → IsAttempt calls result }
+        ensures open { (start : Start) (calls : List ProposerCall) → StateAfter start calls self.now → IsAttempt calls result }
     {
         match &self.attempt {
             Some(attempt) => Some((attempt.slot, attempt.ballot)),
@@ -73,7 +75,7 @@ impl Proposer {
 
     /// Whether the open attempt has its majority, so that its Accept was given; false where none is open.
     pub fn has_majority(&self) -> bool
-        ensures { (start : Start) (calls : List Call) → StateAfter start calls self.now
+        ensures { (start : Start) (calls : List ProposerCall) → StateAfter start calls self.now
             → IsTrue result ↔ HasItsMajority start.members calls }
     {
         match &self.attempt {
@@ -91,13 +93,14 @@ impl Proposer {
         seen_round: u32,
         candidate: Value,
     ) -> Result<Ballot, RoundsSpent>
-        ensures spent { (start : Start) (calls : List Call) → StateAfter start calls self.old
+        ensures spent { (start : Start) (calls : List ProposerCall) → StateAfter start calls self.old
             → IsErr result ↔ (max_round ≤ max seen_round (highest_begun start.highest_round calls)) }
-        ensures ballot { IfOk result (λ ballot. (start : Start) (calls : List Call) → StateAfter start calls self.old
+        ensures ballot { IfOk result (λ ballot. (start : Start) (calls : List ProposerCall) → StateAfter start calls self.old
             → ballot ≡ next_ballot start.me (highest_begun start.highest_round calls) seen_round) }
-        ensures stands { IfOk result (λ ballot. (start : Start) (calls : List Call) → StateAfter start calls self.old
+        ensures stands { IfOk result (λ ballot. (start : Start) (calls : List ProposerCall) → StateAfter start calls self.old
             → StateAfter start (calls ++ Begins (record {
               slot = slot;
+              reach = OneSlot;
               seen_round = seen_round;
               candidate = candidate;
               ballot = ballot;
@@ -109,27 +112,27 @@ impl Proposer {
         ensures round { IfOk result (λ ballot. self.new.highest_round ≡ ballot.round) }
         ensures err { OnErr result (self.new ≡ self.old) }
     {
-        let ballot = self.next(seen_round)?;
+        let ballot = self.next_ballot(seen_round)?;
         self.highest_round = ballot.round();
         self.attempt = Some(Attempt::new(slot, ballot, candidate));
         Ok(ballot)
     }
 
-    /// What `begin` would give.
+    /// What `begin` would give, and `begin_from`.
     pub fn see_begin(
         &self,
         _slot: Slot,
         seen_round: u32,
         _candidate: &Value,
     ) -> Result<Ballot, RoundsSpent>
-        ensures spent { (start : Start) (calls : List Call) → StateAfter start calls self.now
+        ensures spent { (start : Start) (calls : List ProposerCall) → StateAfter start calls self.now
             → IsErr result ↔ (max_round ≤ max seen_round (highest_begun start.highest_round calls)) }
-        ensures ballot { IfOk result (λ ballot. (start : Start) (calls : List Call) → StateAfter start calls self.now
+        ensures ballot { IfOk result (λ ballot. (start : Start) (calls : List ProposerCall) → StateAfter start calls self.now
             → ballot ≡ next_ballot start.me (highest_begun start.highest_round calls) seen_round) }
         ensures limit { IsErr result ↔ (max_round ≤ max seen_round self.now.highest_round) }
         ensures next { IfOk result (λ ballot. ballot ≡ next_ballot self.now.me self.now.highest_round seen_round) }
     {
-        self.next(seen_round)
+        self.next_ballot(seen_round)
     }
 
     /// Counts a promise for the open attempt's slot and ballot: of members, each once, whatever else it sends. With the
@@ -143,10 +146,10 @@ impl Proposer {
         ballot: Ballot,
         report: Option<Acceptance>,
     ) -> Option<(Slot, Ballot, Value)>
-        ensures answers { (start : Start) (calls : List Call) → StateAfter start calls self.old
+        ensures answers { (start : Start) (calls : List ProposerCall) → StateAfter start calls self.old
             → Answers start.members calls
             (record { sender = sender; slot = slot; ballot = ballot; report = report }) result }
-        ensures stands { (start : Start) (calls : List Call) → StateAfter start calls self.old
+        ensures stands { (start : Start) (calls : List ProposerCall) → StateAfter start calls self.old
             → StateAfter start (calls ++ Promises
             (record { sender = sender; slot = slot; ballot = ballot; report = report }) ∷ []) self.new }
         ensures attempt { attempt_of self.new ≡ attempt_of self.old }
@@ -165,10 +168,10 @@ impl Proposer {
         ballot: Ballot,
         report: &Option<Acceptance>,
     ) -> Result<Option<(Slot, Ballot, Value)>, OutOfMemory>
-        ensures answers { IfOk result (λ answer. (start : Start) (calls : List Call) → StateAfter start calls self.now
+        ensures answers { IfOk result (λ answer. (start : Start) (calls : List ProposerCall) → StateAfter start calls self.now
             → Answers start.members calls
             (record { sender = sender; slot = slot; ballot = ballot; report = report.now }) answer) }
-        ensures memory { OnErr result ((start : Start) (calls : List Call) → StateAfter start calls self.now
+        ensures memory { OnErr result ((start : Start) (calls : List ProposerCall) → StateAfter start calls self.now
             → Answers start.members calls
             (record { sender = sender; slot = slot; ballot = ballot; report = report.now }) None → ⊥) }
     {
@@ -178,14 +181,16 @@ impl Proposer {
         }
     }
 
-    /// Ends the attempt of this slot and ballot, if it is open: a member has promised a higher one.
+    /// Ends the attempt of this slot and ballot, if it is open: a member has promised a higher one. An attempt for all
+    /// slots from one on is ended by one of any of these slots, also before its majority.
     pub fn on_nack(&mut self, slot: Slot, ballot: Ballot)
-        ensures stands { (start : Start) (calls : List Call) → StateAfter start calls self.old
+        ensures stands { (start : Start) (calls : List ProposerCall) → StateAfter start calls self.old
             → StateAfter start (calls ++ Nacks slot ballot ∷ []) self.new }
         ensures node { self.new.me ≡ self.old.me }
         ensures round { self.new.highest_round ≡ self.old.highest_round }
-        ensures ends { attempt_of self.old ≡ Some (slot, ballot) → attempt_of self.new ≡ None }
-        ensures stays { (attempt_of self.old ≡ Some (slot, ballot) → ⊥) → attempt_of self.new ≡ attempt_of self.old }
+        ensures own { attempt_of self.old ≡ Some (slot, ballot) → attempt_of self.new ≡ None }
+        ensures ends { IsRefusedBy self.old slot ballot → attempt_of self.new ≡ None }
+        ensures stays { (IsRefusedBy self.old slot ballot → ⊥) → attempt_of self.new ≡ attempt_of self.old }
     {
         end_at(&mut self.attempt, slot, ballot);
     }
@@ -194,7 +199,7 @@ impl Proposer {
     pub fn see_on_nack(&self, _slot: Slot, _ballot: Ballot) {}
 
     // The node's next ballot.
-    fn next(&self, seen_round: u32) -> Result<Ballot, RoundsSpent>
+    pub(crate) fn next_ballot(&self, seen_round: u32) -> Result<Ballot, RoundsSpent>
         ensures spent { IsErr result ↔ (max_round ≤ max seen_round self.now.highest_round) }
         ensures ballot { IfOk result (λ ballot. ballot ≡ next_ballot self.now.me self.now.highest_round seen_round) }
     {
@@ -214,9 +219,9 @@ fn count_in(
     ballot: Ballot,
     report: Option<Acceptance>,
 ) -> Option<(Slot, Ballot, Value)>
-    ensures answers { (calls : List Call) → HoldsOpen members calls held.old
+    ensures answers { (calls : List ProposerCall) → HoldsOpen members calls held.old
         → Answers members calls (record { sender = sender; slot = slot; ballot = ballot; report = report }) result }
-    ensures stands { (calls : List Call) → HoldsOpen members calls held.old
+    ensures stands { (calls : List ProposerCall) → HoldsOpen members calls held.old
         → HoldsOpen members (calls ++ Promises
         (record { sender = sender; slot = slot; ballot = ballot; report = report }) ∷ []) held.new }
 {
@@ -234,9 +239,9 @@ fn count_for(
     ballot: Ballot,
     report: Option<Acceptance>,
 ) -> Option<(Slot, Ballot, Value)>
-    ensures answers { (calls : List Call) → Holds members calls attempt.old
+    ensures answers { (calls : List ProposerCall) → Holds members calls attempt.old
         → Answers members calls (record { sender = sender; slot = slot; ballot = ballot; report = report }) result }
-    ensures stands { (calls : List Call) → Holds members calls attempt.old
+    ensures stands { (calls : List ProposerCall) → Holds members calls attempt.old
         → Holds members (calls ++ Promises
         (record { sender = sender; slot = slot; ballot = ballot; report = report }) ∷ []) attempt.new }
 {
@@ -256,17 +261,17 @@ fn see_count_in(
     ballot: Ballot,
     report: &Option<Acceptance>,
 ) -> Result<Option<(Slot, Ballot, Value)>, OutOfMemory>
-    ensures answers { IfOk result (λ answer. (calls : List Call) → Holds members calls attempt.now
+    ensures answers { IfOk result (λ answer. (calls : List ProposerCall) → Holds members calls attempt.now
         → Answers members calls
         (record { sender = sender; slot = slot; ballot = ballot; report = report.now }) answer) }
-    ensures memory { OnErr result ((calls : List Call) → Holds members calls attempt.now
+    ensures memory { OnErr result ((calls : List ProposerCall) → Holds members calls attempt.now
         → Answers members calls
         (record { sender = sender; slot = slot; ballot = ballot; report = report.now }) None → ⊥) }
 {
     if !attempt.would_count(members, sender, slot, ballot) {
         return Ok(None);
     }
-    match attempt.see_count(members, sender, report)? {
+    match attempt.see_count(members, sender, report.as_ref())? {
         Some(value) => Ok(Some((slot, ballot, value))),
         None => Ok(None),
     }
@@ -274,8 +279,10 @@ fn see_count_in(
 
 // Ends what is held, if it is of this slot and ballot.
 fn end_at(held: &mut Option<Attempt>, slot: Slot, ballot: Ballot)
-    ensures { (members : ℕ) (calls : List Call) → HoldsOpen members calls held.old
+    ensures stands { (members : ℕ) (calls : List ProposerCall) → HoldsOpen members calls held.old
         → HoldsOpen members (calls ++ Nacks slot ballot ∷ []) held.new }
+    ensures ends { IsAt held.old slot ballot → held.new ≡ None }
+    ensures stays { (IsAt held.old slot ballot → ⊥) → held.new ≡ held.old }
 {
     if is_at(held, slot, ballot) {
         *held = None;
@@ -287,7 +294,7 @@ fn is_at(held: &Option<Attempt>, slot: Slot, ballot: Ballot) -> bool
     ensures { IsTrue result ↔ IsAt held.now slot ballot }
 {
     match held {
-        Some(attempt) => attempt.is_of(slot, ballot),
+        Some(attempt) => attempt.is_at(slot, ballot),
         None => false,
     }
 }

@@ -185,7 +185,7 @@ regrouped left before x after right all e =
 
 module _ {V : Type 0} (means : List Field → V → Type 0) (IsAtFault : WireFault → Field → Type 0)
     (none : (before after : List Field) (f : Field) (fault : WireFault) (v : V) → IsAtFault fault f → means (before ++ f ∷ after) v → ⊥) where
-  -- a embedded that is read among other fields
+  -- a text that is read among other fields
   no_text_at_fault : (text : List ℕ) (fault : WireFault) (fields left right : List Field) (v : V) → TextFault IsAtFault fault text → IsFields text fields
       → means (left ++ (fields ++ right)) v → ⊥
   no_text_at_fault text fault fields left right v bad is m =

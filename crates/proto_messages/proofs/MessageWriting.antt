@@ -199,7 +199,7 @@ strings_mean number xs fits =
 
 module _ {V : Type 0} (means : List Field → V → Type 0) (Fitting : V → Type 0) (written : V → List Field)
     (fit : (x : V) → Fitting x → AllByRecursion FitsField (written x)) (again : (x : V) → Fitting x → means (written x) x) where
-  -- what is written for an embedded message is one embedded, and for a list of them a embedded each
+  -- what is written for an embedded message is one text, and for a list of them a text each
   merge_written : (o : Option V) → AllByRecursion (FitsEmbedded Fitting written) (elements o) → Merge means (map (λ x. fields_text (written x)) (elements o)) o
   merge_written None fits = refl
   merge_written (Some x) fits =

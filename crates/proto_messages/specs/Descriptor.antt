@@ -37,17 +37,17 @@ all_meant thing number fields = if all_hold thing number fields then Some (thing
 abbrev pub joined : {A : Type 0} → List (List A) → List A
 joined lists = flat_map (λ list. list) lists
 
--- The all_embedded of one embedded message are lists of fields, which mean it together, in order; without a embedded there is none.
+-- The texts of one embedded message are lists of fields, which mean it together, in order; without a text there is none.
 abbrev pub Merge : {V : Type 0} → (List Field → V → Type 0) → List (List ℕ) → Option V → Type 0
 Merge means all_embedded None = all_embedded ≡ []
 Merge means all_embedded (Some value) = (all_embedded ≢ []) × ((lists : List (List Field)) × AllZip IsFields all_embedded lists × means (joined lists) value)
 
--- Each embedded is a list of fields that mean a message of their own.
+-- Each text is a list of fields that mean a message of their own.
 abbrev pub EachMeans : {V : Type 0} → (List Field → V → Type 0) → List (List ℕ) → List V → Type 0
 EachMeans means all_embedded values = AllZip (λ embedded value. (fields : List Field) × IsFields embedded fields × means fields value) all_embedded values
 
 -- Fields mean what a message of the descriptor holds: the last value of a single field or its default, all strings of a repeated
--- one, an embedded message merged of all its all_embedded, and repeated ones embedded by embedded. Other numbers are passed over.
+-- one, an embedded message merged of all its texts, and repeated ones text by text. Other numbers are passed over.
 abbrev pub Means : (descriptor : Descriptor) → List Field → Values descriptor → Type 0
 Means NoMore fields values = Unit {0}
 Means (One number type others) fields values =
@@ -75,7 +75,7 @@ TextFault IsAtFault fault text =
     FieldsFault fault text
     ⊎ ((before : List Field) × (f : Field) × (rest : List ℕ) × FieldsThen text (before ++ f ∷ []) rest × IsAtFault fault f)
 
--- what is wrong with a embedded of an embedded message
+-- what is wrong with the text of an embedded message
 abbrev pub EmbeddedFault : (WireFault → Field → Type 0) → WireFault → Held → Type 0
 EmbeddedFault IsAtFault fault held =
     ((fault ≡ BadWireType) × (wire_type held ≢ 2))

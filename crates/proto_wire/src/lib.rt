@@ -1,8 +1,8 @@
 //! The messages of Arrow Flight over the wire: messages of numbered fields, each a struct, and length-prefixed frames,
 //! read from bytes that nobody has checked and written in one encoding each.
 //!
-//! What bytes encode is defined in `specs/`, apart from how they are read: `Frame` after gRPC's length-prefixed
-//! messages, and `Flight` with the nine messages as descriptors, after Apache Arrow's Flight.proto. What the fields of
+//! What bytes encode is defined in `specs/`, apart from how they are read: `Flight` has the nine messages as descriptors,
+//! after Apache Arrow's Flight.proto. Frames, gRPC's length-prefixed messages, are `grpc_frames`'. What the fields of
 //! a descriptor mean is `proto_messages`' own, and so are [`ProtoMessage::decode`] and [`ProtoMessage::encode`], which
 //! all nine have; its public names stand here too, and those of `proto_fields`, which it stands on. A call that reads
 //! is `Ok` exactly where the bytes begin with such a frame, or mean such a message, memory and failed reads apart, and

@@ -13,7 +13,7 @@ use Rattle.table_types.specs.Valid.{FitsFrame, IsUpload, batches_limit}
 use Rattle.table_types.specs.Tables.{shape_text, effective, Version, first_of_all}
 use Rattle.table_types.specs.Answers.{answer_messages, answer_of}
 use Rattle.table_types.proofs.Growing.{all_there}
-use Rattle.table_versions.specs.State.{values_limit}
+use Rattle.table_versions.specs.State.{agreed_values_limit}
 use Rattle.table_versions.proofs.BareSchemas.{ShapesApart, bare_writable}
 use Rattle.call_protocol.specs.Statuses.{ok_trailer}
 use Rattle.downloads.specs.Downloads.{ServedUpload, IdsDiffer, IsOfVersion, IsServedVersion, served_of}
@@ -133,7 +133,7 @@ all_few schema (upload ∷ uploads) each =
     )
 
 -- it has one message of the schema, and of each upload as many as it has batches, or one
-pub is_answer : (version : Version) (most : ℕ) (rest : List ℕ) → CanBeServed version most → most ≤ values_limit
+pub is_answer : (version : Version) (most : ℕ) (rest : List ℕ) → CanBeServed version most → most ≤ agreed_values_limit
     → IsAnswer (answer_of version ++ ok_trailer ++ rest) (answer_messages version) rest
 is_answer version most rest can few = record {
   parts = refl;

@@ -7,7 +7,7 @@ ghost use Rattle.table_types.specs.Valid.{IsTableName, IsUpload};
 ghost use Rattle.table_types.specs.Ticket.{TableVersion, IsTableVersion};
 ghost use Rattle.table_types.specs.Tables.{Version, version_of};
 ghost use Rattle.table_types.specs.Answers.{answer_messages, answer_of};
-ghost use Rattle.table_versions.specs.State.{values_limit, TablesState, HasTaken};
+ghost use Rattle.table_versions.specs.State.{agreed_values_limit, TablesState, HasTaken};
 ghost use Rattle.table_versions.specs.Values.{AreUploadsIn};
 ghost use Rattle.call_protocol.specs.declared.refusal.CallRefusal.{CallRefusal as Refused};
 ghost use Rattle.call_protocol.specs.declared.refusal.CallRefusal.TheVariants.{BadPath, NoCall, MessageCount, BadTicket, NoSchema, TooLarge};
@@ -102,13 +102,13 @@ pub fn texts_are_refused_at_one_place()
 pub fn versions_can_be_got()
     ensures held { (state : TablesState) (values : List Value) (uploads : List Upload) (table : List ℕ) (number : ℕ)
         (version : Version) → HasTaken state values → AreUploadsIn values uploads
-        → version_of table number uploads ≡ Some version → IsMadeOf version uploads × (length uploads ≤ values_limit) }
+        → version_of table number uploads ≡ Some version → IsMadeOf version uploads × (length uploads ≤ agreed_values_limit) }
     ensures served { (version : Version) (uploads : List Upload) → IsMadeOf version uploads → IsServedVersion version }
     ensures answered { (version : Version) (uploads : List Upload) (rest : List ℕ) → IsMadeOf version uploads
-        → length uploads ≤ values_limit
+        → length uploads ≤ agreed_values_limit
         → IsAnswer (answer_of version ++ ok_trailer ++ rest) (answer_messages version) rest }
     ensures given { (version : Version) (uploads : List Upload) (rest left : List ℕ)
-        (result : Result Download ClientFault) → IsMadeOf version uploads → length uploads ≤ values_limit
+        (result : Result Download ClientFault) → IsMadeOf version uploads → length uploads ≤ agreed_values_limit
         → Receives GivesDownload HasDownload result (answer_of version ++ ok_trailer ++ rest) left
         → GivesServed version rest result left }
 {

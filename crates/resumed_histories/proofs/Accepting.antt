@@ -9,13 +9,13 @@ use Rattle.ballots.specs.declared.record.Record.TheVariants.{Accepted as HasAcce
 use Rattle.ballots.specs.declared.message.Message.{Message}
 use Rattle.ballots.specs.declared.message.Body.{Body}
 use Rattle.ballots.specs.declared.message.Body.TheVariants as body
-use Rattle.agreement_rules.specs.Views.{Config, started_with}
+use Rattle.agreement_rules.specs.Views.{AgreementConfig, started_with}
 use Rattle.agreement_rules.specs.Keeping.{record_behind, record_of}
 use Rattle.histories.specs.Event.{node_of}
 use Rattle.histories.specs.Event as event
 use Rattle.histories.specs.EventResult as results
 use Rattle.histories.specs.History.{Step}
-use Rattle.histories.specs.Following.{Seat, IsUp, IsDown, recovered_in, Reaches}
+use Rattle.histories.specs.Following.{UpOrDown, IsUp, IsDown, recovered_in, Reaches}
 use Rattle.histories.specs.Owning.{concerns, sends_in, entry_of, own, Leads}
 use Rattle.histories.specs.Keeping.{is_recovered, if_recovered, AreKept, records_in}
 use Rattle.safe_histories.specs.Safe.{IsStep}
@@ -118,8 +118,8 @@ module _ (slot : ℕ) (told : Acceptance) where
         earlier zero behind within is = absurd (omega (arith, behind))
         earlier (suc place) behind within is = next.first place (omega (arith, within)) is
 
-    module _ (parts : PartsAnswer) (ticks : TicksSay) (config : Config) where
-      sent_here : (step : Step) (was : Bool) (seat after : Seat) → concerns node step.event ≡ true → Leads config seat (entry_of sent step was) after
+    module _ (parts : PartsAnswer) (ticks : TicksSay) (config : AgreementConfig) where
+      sent_here : (step : Step) (was : Bool) (seat after : UpOrDown) → concerns node step.event ≡ true → Leads config seat (entry_of sent step was) after
           → Comes record_of (sends_in sent step.result) (HasAccepted slot told) → Contains sent (message node slot (body.Accepted told))
       sent_here step was seat after mine leads (m, has, is) =
           let says = says_accepted m.slot m.body is in
@@ -130,9 +130,9 @@ module _ (slot : ℕ) (told : Acceptance) where
           let named : m ≡ message node slot (body.Accepted told) = whole ∙ ap (λ (n : ℕ). message n slot (body.Accepted told)) sender in
           subst (Contains sent) named (sent_in_step sent step.result m has)
 
-      own_step : (step : Step) (steps : List Step) (was : Bool) (recovered : List Bool) (seat : Seat) (records : List Record) → concerns node step.event ≡ true
+      own_step : (step : Step) (steps : List Step) (was : Bool) (recovered : List Bool) (seat : UpOrDown) (records : List Record) → concerns node step.event ≡ true
           → AreKept config seat (entry_of sent step was ∷ own node sent steps recovered) records → Contains records (HasAccepted slot told)
-          → ((after : Seat) (more : List Record) → AreKept config after (own node sent steps recovered) more → Contains more (HasAccepted slot told) → WasTold steps recovered)
+          → ((after : UpOrDown) (more : List Record) → AreKept config after (own node sent steps recovered) more → Contains more (HasAccepted slot told) → WasTold steps recovered)
           → WasTold (step ∷ steps) (was ∷ recovered)
       own_step step steps was recovered seat records mine (after, due, more, leads, at_cut, kept, are) has rest =
           let found : Bool = is_recovered (own node sent steps recovered) in
@@ -151,14 +151,14 @@ module _ (slot : ℕ) (told : Acceptance) where
                 ]
           ]
 
-      step_told : (step : Step) (steps : List Step) (was : Bool) (recovered : List Bool) (seat : Seat) (records : List Record) (b : Bool) → concerns node step.event ≡ b
+      step_told : (step : Step) (steps : List Step) (was : Bool) (recovered : List Bool) (seat : UpOrDown) (records : List Record) (b : Bool) → concerns node step.event ≡ b
           → AreKept config seat (if b then entry_of sent step was ∷ own node sent steps recovered else own node sent steps recovered) records → Contains records (HasAccepted slot told)
-          → ((after : Seat) (more : List Record) → AreKept config after (own node sent steps recovered) more → Contains more (HasAccepted slot told) → WasTold steps recovered)
+          → ((after : UpOrDown) (more : List Record) → AreKept config after (own node sent steps recovered) more → Contains more (HasAccepted slot told) → WasTold steps recovered)
           → WasTold (step ∷ steps) (was ∷ recovered)
       step_told step steps was recovered seat records true mine kept has rest = own_step step steps was recovered seat records mine kept has rest
       step_told step steps was recovered seat records false mine kept has rest = later step steps was recovered (rest seat records kept has)
 
-      all_told : (steps : List Step) (recovered : List Bool) (seat : Seat) (records : List Record) → AreKept config seat (own node sent steps recovered) records
+      all_told : (steps : List Step) (recovered : List Bool) (seat : UpOrDown) (records : List Record) → AreKept config seat (own node sent steps recovered) records
           → Contains records (HasAccepted slot told) → WasTold steps recovered
       all_told [] recovered seat records none has = absurd (none_in (HasAccepted slot told) (subst (λ (rs : List Record). Contains rs (HasAccepted slot told)) none has))
       all_told (step ∷ steps) [] seat records none has = absurd (none_in (HasAccepted slot told) (subst (λ (rs : List Record). Contains rs (HasAccepted slot told)) none has))
@@ -168,11 +168,11 @@ module _ (slot : ℕ) (told : Acceptance) where
 -- ---- what is found at a start
 
 -- the record was due where the node went down, and is found
-abbrev IsFoundNow : Bool → Seat → Record → Type 0
+abbrev IsFoundNow : Bool → UpOrDown → Record → Type 0
 IsFoundNow found seat kept = (found ≡ true) × (records : List Record) × (seat ≡ IsDown records (Some kept))
 
 -- a start has the records that the node had, and what was due where it went down
-had_or_found : (found : Bool) (seat : Seat) (kept : Record) → Contains (recovered_in found seat) kept → Contains (records_in seat) kept ⊎ IsFoundNow found seat kept
+had_or_found : (found : Bool) (seat : UpOrDown) (kept : Record) → Contains (recovered_in found seat) kept → Contains (records_in seat) kept ⊎ IsFoundNow found seat kept
 had_or_found found (IsUp views) kept has = inl has
 had_or_found found (IsDown records None) kept has = inl has
 had_or_found false (IsDown records (Some due)) kept has = inl has
@@ -189,19 +189,19 @@ or_more (inr b) = inr (inl b)
 -- ---- the law
 
 abbrev pub KeepsRecords : Type 0
-KeepsRecords = (config : Config) (sent : List Message) (steps : List Step) (recovered : List Bool) (seats : ℕ → Seat)
+KeepsRecords = (config : AgreementConfig) (sent : List Message) (steps : List Step) (recovered : List Bool) (seats : ℕ → UpOrDown)
     (node : ℕ) → node < config.members → Reaches config sent steps recovered seats
     → AreKept config (IsUp (started_with [])) (own node sent steps recovered) (records_in (seats node))
 
 module _ (keeps : KeepsRecords) (parts : PartsAnswer) (ticks : TicksSay) where
-  pub accepted_was_told : (config : Config) (sent : List Message) (steps : List Step) (recovered : List Bool) (seats : ℕ → Seat) (node slot : ℕ) (told : Acceptance)
+  pub accepted_was_told : (config : AgreementConfig) (sent : List Message) (steps : List Step) (recovered : List Bool) (seats : ℕ → UpOrDown) (node slot : ℕ) (told : Acceptance)
       → node < config.members → Reaches config sent steps recovered seats → Contains (records_in (seats node)) (HasAccepted slot told)
       → Contains sent (message node slot (body.Accepted told)) ⊎ WasFound node sent steps recovered slot told
   accepted_was_told config sent steps recovered seats node slot told member reaches has =
       all_told slot told node sent parts ticks config steps recovered (IsUp (started_with [])) (records_in (seats node))
       (keeps config sent steps recovered seats node member reaches) has
 
-  pub accepted_at_start : (config : Config) (sent : List Message) (steps : List Step) (recovered : List Bool) (seats : ℕ → Seat) (node slot : ℕ) (told : Acceptance) (found : Bool)
+  pub accepted_at_start : (config : AgreementConfig) (sent : List Message) (steps : List Step) (recovered : List Bool) (seats : ℕ → UpOrDown) (node slot : ℕ) (told : Acceptance) (found : Bool)
       → node < config.members → Reaches config sent steps recovered seats → Contains (recovered_in found (seats node)) (HasAccepted slot told)
       → Contains sent (message node slot (body.Accepted told)) ⊎ WasFound node sent steps recovered slot told ⊎ IsFoundNow found (seats node) (HasAccepted slot told)
   accepted_at_start config sent steps recovered seats node slot told found member reaches has =

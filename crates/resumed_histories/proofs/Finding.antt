@@ -8,15 +8,15 @@ use Rattle.ballots.specs.declared.record.Record.TheVariants.{Began, Promised, Ac
 use Rattle.ballots.specs.declared.message.Message.{Message}
 use Rattle.ballots.specs.declared.message.Body.{Body}
 use Rattle.ballots.specs.declared.message.Body.TheVariants as body
-use Rattle.agreement_rules.specs.Views.{Config, Views}
+use Rattle.agreement_rules.specs.Views.{AgreementConfig, Views}
 use Rattle.agreement_rules.specs.Due.{Plan, Due, Refuses, Plans, Attempts, AsksFrom, AimIsDue, TickKeeps, BodyKeeps, MessageKeeps, record_due}
 use Rattle.histories.specs.Event.{Event, node_of, is_restart}
 use Rattle.histories.specs.Event as event
 use Rattle.histories.specs.EventResult.{EventResult, is_done}
 use Rattle.histories.specs.EventResult as results
 use Rattle.histories.specs.History.{Step}
-use Rattle.histories.specs.Following.{Seat, IsUp, IsDown, SeatGives}
-use Rattle.histories.specs.Owning.{is_question, concerns, is_turned_away, handed_in, entry_of, own}
+use Rattle.histories.specs.Following.{UpOrDown, IsUp, IsDown, NodeGives}
+use Rattle.histories.specs.Owning.{is_query, concerns, is_turned_away, handed_in, entry_of, own}
 use Rattle.histories.specs.Keeping.{restarts, is_recovered, IsDueAtCut}
 use Rattle.safe_histories.specs.Safe.{IsStep}
 
@@ -36,14 +36,14 @@ none_is_some x same = cc
 -- ---- what concerns a node
 
 pub of_the_node : (node : ℕ) (e : Event) → concerns node e ≡ true → node_of e ≡ node
-of_the_node node e is = eqb-true (node_of e) node (both (node_of e == node) (not (is_question e)) is).0
+of_the_node node e is = eqb-true (node_of e) node (both (node_of e == node) (not (is_query e)) is).0
 
 not_true : (b : Bool) → not b ≡ true → b ≡ false
 not_true true is = absurd (true_is_false false is refl)
 not_true false is = refl
 
-pub no_question : (node : ℕ) (e : Event) → concerns node e ≡ true → is_question e ≡ false
-no_question node e is = not_true (is_question e) (both (node_of e == node) (not (is_question e)) is).1
+pub no_question : (node : ℕ) (e : Event) → concerns node e ≡ true → is_query e ≡ false
+no_question node e is = not_true (is_query e) (both (node_of e == node) (not (is_query e)) is).1
 
 restart_concerns : (node : ℕ) → concerns node (event.Restart node) ≡ true
 restart_concerns node = ap (λ (b : Bool). b && true) (eq-eqb node node refl)
@@ -148,7 +148,7 @@ module _ (slot : ℕ) (told : Acceptance) where
   began_differs : (ballot : _) → Some (Began ballot) ≡ Some Kept → ⊥
   began_differs ballot same = cc
 
-  module _ (config : Config) where
+  module _ (config : AgreementConfig) where
     asks_keep_none : (me : ℕ) (views : Views) (from : ℕ) (plan : Plan) → AimIsDue config me views (AsksFrom from) (Plans plan) → plan.kept ≡ None
     asks_keep_none me views from plan (inl (within, is)) = ap (λ (p : Plan). p.kept) is
     asks_keep_none me views from plan (inr (outside, is)) = ap (λ (p : Plan). p.kept) is
@@ -180,21 +180,21 @@ module _ (slot : ℕ) (told : Acceptance) where
   body_accepts records at (body.Decided value) kept is due_is = absurd (none_is_some Kept (sym is ∙ due_is))
   body_accepts records at body.Ask kept is due_is = absurd (none_is_some Kept (sym is ∙ due_is))
 
-  message_accepts : (config : Config) (views : Views) (m : Message) (kept : Option Record) → MessageKeeps config views m kept → kept ≡ Some Kept
+  message_accepts : (config : AgreementConfig) (views : Views) (m : Message) (kept : Option Record) → MessageKeeps config views m kept → kept ≡ Some Kept
       → m ≡ message m.sender slot (body.Accept told)
   message_accepts config views m kept (inl (is_of, keeps)) due_is =
       let it = body_accepts views.records m.slot m.body kept keeps due_is in
       ap₂ (message m.sender) it.0 it.1
   message_accepts config views m kept (inr (is_none, is)) due_is = absurd (none_is_some Kept (sym is ∙ due_is))
 
-  module _ (config : Config) (sent elsewhere : List Message) (next : ℕ) (recovered : Bool) (given : EventResult) (new : Seat) (due : Option Record) (due_is : due ≡ Some Kept) where
+  module _ (config : AgreementConfig) (sent elsewhere : List Message) (next : ℕ) (recovered : Bool) (given : EventResult) (new : UpOrDown) (due : Option Record) (due_is : due ≡ Some Kept) where
     handed_there : (number : ℕ) (m : Message) (b : Bool) → (if b then None else slice_get sent number) ≡ Some m → (b ≡ false) × (slice_get sent number ≡ Some m)
     handed_there number m true is = absurd (none_is_some m is)
     handed_there number m false is = (refl, is)
 
     delivery_cut : (node number : ℕ) (views : Views) (handed : Option Message) → (if is_turned_away given then None else slice_get sent number) ≡ handed
         → IsDueAtCut config (IsUp views) (event.DeliverCut node number) handed due
-        → SeatGives config elsewhere next recovered (IsUp views) (event.DeliverCut node number) given new → IsCutAt sent slot told (event.DeliverCut node number) given
+        → NodeGives config elsewhere next recovered (IsUp views) (event.DeliverCut node number) given new → IsCutAt sent slot told (event.DeliverCut node number) given
     delivery_cut node number views None is at_cut gives = absurd (none_is_some Kept (sym at_cut ∙ due_is))
     delivery_cut node number views (Some m) is at_cut (inr (late, away, same)) =
         absurd (true_is_false (is_turned_away given) (ap is_turned_away away) (handed_there number m (is_turned_away given) is).0)
@@ -209,8 +209,8 @@ module _ (slot : ℕ) (told : Acceptance) where
     none_due : (is : due ≡ None) → ⊥
     none_due is = none_is_some Kept (sym is ∙ due_is)
 
-    pub cut_is : (seat : Seat) (e : Event) → IsDueAtCut config seat e (handed_in sent (record { event = e; result = given })) due
-        → SeatGives config elsewhere next recovered seat e given new → IsCutAt sent slot told e given
+    pub cut_is : (seat : UpOrDown) (e : Event) → IsDueAtCut config seat e (handed_in sent (record { event = e; result = given })) due
+        → NodeGives config elsewhere next recovered seat e given new → IsCutAt sent slot told e given
     cut_is (IsUp views) (event.Put node text) at_cut gives = absurd (none_due at_cut)
     cut_is (IsUp views) (event.Tick node left) at_cut gives = absurd (none_due at_cut)
     cut_is (IsUp views) (event.Deliver node number) at_cut gives = absurd (none_due at_cut)

@@ -9,11 +9,11 @@ use Rattle.ballots.specs.declared.acceptance.Acceptance.{Acceptance}
 use Rattle.ballots.specs.declared.record.Record.{Record}
 use Rattle.ballots.specs.declared.record.Record.TheVariants.{Accepted as HasAccepted}
 use Rattle.ballots.specs.declared.message.Body.TheVariants.{Accepted}
-use Rattle.agreement_rules.specs.Views.{Config, Views, started_with}
+use Rattle.agreement_rules.specs.Views.{AgreementConfig, Views, started_with}
 use Rattle.histories.specs.Event.{Event}
 use Rattle.histories.specs.Event as event
 use Rattle.histories.specs.History.{Step, History}
-use Rattle.histories.specs.Following.{Seat, IsUp, recovered_in, Reaches}
+use Rattle.histories.specs.Following.{UpOrDown, IsUp, recovered_in, Reaches}
 use Rattle.joined_histories.specs.Joined.{Precedes}
 use Rattle.cut_histories.specs.Settling.{is_of_a_client, of_clients, MayHaveSent}
 use Rattle.resumed_histories.specs.StartingOver.{Hears, StartsOver, StartsOrHands, IsRecorded}
@@ -51,37 +51,37 @@ more_of_clients steps more each =
 -- ---- the laws that are cited
 
 abbrev pub StartsAnew : Type 0
-StartsAnew = (config : Config) (left start : ℕ → Seat) (before : History) (recovered : ℕ → Bool) (told : List Message)
+StartsAnew = (config : AgreementConfig) (left start : ℕ → UpOrDown) (before : History) (recovered : ℕ → Bool) (told : List Message)
     → Precedes config left before → ((m : Message) → Contains told m → Contains before.sent m) → StartsOver config left recovered told start
     → (more : List Step) × ((step : Step) → Contains more step → StartsOrHands step.event)
     × Precedes config start (record { config = config; sent = before.sent; steps = before.steps ++ more })
 
 abbrev pub CutsSend : Type 0
-CutsSend = (config : Config) (sent : List Message) (steps : List Step) (recovered : List Bool) (seats : ℕ → Seat) (found : ℕ → Bool)
+CutsSend = (config : AgreementConfig) (sent : List Message) (steps : List Step) (recovered : List Bool) (seats : ℕ → UpOrDown) (found : ℕ → Bool)
     → Reaches config sent steps recovered seats → MayHaveSent config sent steps seats found
 
 abbrev pub SameRecords : Type 0
-SameRecords = (config : Config) (sent : List Message) (steps : List Step) (seats : ℕ → Seat) (found : ℕ → Bool) (other : MayHaveSent config sent steps seats found)
+SameRecords = (config : AgreementConfig) (sent : List Message) (steps : List Step) (seats : ℕ → UpOrDown) (found : ℕ → Bool) (other : MayHaveSent config sent steps seats found)
     (node : ℕ) (recovered : Bool) → recovered_in recovered (other.other_seats node) ≡ recovered_in (found node) (seats node)
 
 abbrev pub SameOutside : Type 0
-SameOutside = (config : Config) (sent : List Message) (steps : List Step) (seats : ℕ → Seat) (found : ℕ → Bool) (other : MayHaveSent config sent steps seats found)
+SameOutside = (config : AgreementConfig) (sent : List Message) (steps : List Step) (seats : ℕ → UpOrDown) (found : ℕ → Bool) (other : MayHaveSent config sent steps seats found)
     (node : ℕ) → config.members ≤ node → other.other_seats node ≡ seats node
 
 abbrev pub AcceptedSent : Type 0
-AcceptedSent = (config : Config) (sent : List Message) (steps : List Step) (seats : ℕ → Seat) (found : ℕ → Bool) (other : MayHaveSent config sent steps seats found)
+AcceptedSent = (config : AgreementConfig) (sent : List Message) (steps : List Step) (seats : ℕ → UpOrDown) (found : ℕ → Bool) (other : MayHaveSent config sent steps seats found)
     (node slot : ℕ) (told : Acceptance) → node < config.members → Contains (recovered_in (found node) (seats node)) (HasAccepted slot told)
     → Contains other.other_sent (message node slot (Accepted told))
 
 -- ---- the history that precedes
 
 -- some history precedes such nodes, and clients did the same in it
-pub record HasPreceded (config : Config) (start : ℕ → Seat) (before : History) : Type 0 where
+pub record HasPreceded (config : AgreementConfig) (start : ℕ → UpOrDown) (before : History) : Type 0 where
   pub whole : History
   pub precedes : Precedes config start whole
   pub clients : of_clients whole.steps ≡ of_clients before.steps
 
-pub preceded : StartsAnew → CutsSend → SameRecords → SameOutside → AcceptedSent → (config : Config) (left start : ℕ → Seat) (before : History) (recovered : ℕ → Bool) (told : List Message)
+pub preceded : StartsAnew → CutsSend → SameRecords → SameOutside → AcceptedSent → (config : AgreementConfig) (left start : ℕ → UpOrDown) (before : History) (recovered : ℕ → Bool) (told : List Message)
     → Precedes config left before → ((m : Message) → Contains told m → IsRecorded config left recovered m) → StartsOver config left recovered told start
     → HasPreceded config start before
 preceded anew cuts records outside accepted config left start before recovered told precedes recorded starts =

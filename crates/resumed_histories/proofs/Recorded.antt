@@ -9,7 +9,7 @@ use Rattle.ballots.specs.declared.record.Record.{Record}
 use Rattle.table_types.specs.Uploads.{Upload}
 use Rattle.table_types.specs.Tables.{effective, outcome_of}
 use Rattle.table_types.specs.Answers.{answer_of}
-use Rattle.agreement_rules.specs.Views.{Config, Views, started_with}
+use Rattle.agreement_rules.specs.Views.{AgreementConfig, Views, started_with}
 use Rattle.agreement_rules.specs.Due.{Refuses, Plans}
 use Rattle.agreement_rules.specs.Keeping.{record_of}
 use Rattle.histories.specs.Due.{Input}
@@ -19,8 +19,8 @@ use Rattle.histories.specs.Event as event
 use Rattle.histories.specs.EventResult.{EventResult, count_of}
 use Rattle.histories.specs.EventResult as results
 use Rattle.histories.specs.History.{Step}
-use Rattle.histories.specs.Following.{Seat, IsUp, IsDown, reason_of, SendsGives, InputGives, GetGivesIfAble, InfoGivesIfAble, UpGives, RestartGives, DownGives, SeatGives, StepFollows, StepsReach, Reaches, at_first}
-use Rattle.histories.specs.Owning.{Entry, is_question, concerns, sends_in, entry_of, own}
+use Rattle.histories.specs.Following.{UpOrDown, IsUp, IsDown, reason_of, SendsGives, InputGives, GetGivesIfAble, InfoGivesIfAble, UpGives, RestartGives, DownGives, NodeGives, StepFollows, StepsReach, Reaches, at_first}
+use Rattle.histories.specs.Owning.{OwnEntry, is_query, concerns, sends_in, entry_of, own}
 use Rattle.histories.specs.Keeping.{is_recovered, if_recovered, AreKept, records_in}
 use Rattle.resumed_histories.proofs.Sending.{PartsAnswer, TicksSay, seat_own}
 use Rattle.resumed_histories.proofs.Accepting.{KeepsRecords}
@@ -70,11 +70,11 @@ gives_its_own f (z ∷ xs) x y is (suc k, within, same) = with_rest (f z) (filte
 
 -- ---- what an entry sends, its node keeps
 
-kept_of : (config : Config) (entries : List Entry) (seat : Seat) (records : List Record) (entry : Entry) (m : Message) (kept : Record) → AreKept config seat entries records
+kept_of : (config : AgreementConfig) (entries : List OwnEntry) (seat : UpOrDown) (records : List Record) (entry : OwnEntry) (m : Message) (kept : Record) → AreKept config seat entries records
     → Contains entries entry → Contains entry.sends m → record_of m ≡ Some kept → Contains records kept
 kept_of config [] seat records entry m kept keeps has sends is = absurd (none_in entry has)
 kept_of config (first ∷ entries) seat records entry m kept (after, due, more, leads, at_cut, rest, are) (zero, within, same) sends is =
-    let here : Contains first.sends m = subst (λ (e : Entry). Contains e.sends m) (sym same) sends in
+    let here : Contains first.sends m = subst (λ (e : OwnEntry). Contains e.sends m) (sym same) sends in
     subst (λ (rs : List Record). Contains rs kept) (sym are)
     (Contains-append_left (filter_map record_of first.sends) (if_recovered (is_recovered entries) due ++ more) kept
     (gives_its_own record_of first.sends m kept is here))
@@ -86,20 +86,20 @@ kept_of config (first ∷ entries) seat records entry m kept (after, due, more, 
 
 -- ---- a step that sends
 
-module _ (config : Config) (sent : List Message) (next : ℕ) (given : EventResult) (new : Seat) (some : 0 < count_of given) where
+module _ (config : AgreementConfig) (sent : List Message) (next : ℕ) (given : EventResult) (new : UpOrDown) (some : 0 < count_of given) where
   quiet : (other : EventResult) → given ≡ other → count_of other ≡ 0 → ⊥
   quiet other is none = absurd (omega (arith, some, ap count_of is, none))
 
   -- what goes out are the next messages of the history, and no question was asked
   abbrev GoesOut : Event → Type 0
-  GoesOut e = (is_question e ≡ false) × (given ≡ results.Sent next (count_of given))
+  GoesOut e = (is_query e ≡ false) × (given ≡ results.Sent next (count_of given))
 
   input_out : (node : ℕ) (views : Views) (i : Input) → InputGives config node views i (SendsGives sent next views) given new → given ≡ results.Sent next (count_of given)
   input_out node views i (inl (Refuses refusal, is_due, (is, same))) = absurd (quiet (results.Refused (reason_of refusal)) is refl)
   input_out node views i (inl (Plans plan, is_due, (is, placed, same))) = is ∙ ap (results.Sent next) (sym (ap count_of is))
   input_out node views i (inr (allowed, (is, same))) = absurd (quiet (results.Refused results.OutOfMemory) is refl)
 
-  restart_quiet : (recovered : Bool) (old : Seat) → RestartGives recovered old given new → ⊥
+  restart_quiet : (recovered : Bool) (old : UpOrDown) → RestartGives recovered old given new → ⊥
   restart_quiet recovered old (inl (is, same)) = quiet results.Done is refl
   restart_quiet recovered old (inr (is, same)) = quiet (results.Refused results.OutOfMemory) is refl
 
@@ -128,7 +128,7 @@ module _ (config : Config) (sent : List Message) (next : ℕ) (given : EventResu
   up_out recovered views (event.Info node table) (uploads, has, gives, same) = absurd (info_quiet uploads table gives)
   up_out recovered views (event.Outcome node text) (uploads, has, (upload, is_text, is), same) = absurd (quiet (results.Outcome (outcome_of uploads upload)) is refl)
 
-  down_quiet : (recovered : Bool) (old : Seat) (e : Event) → DownGives recovered old e given new → ⊥
+  down_quiet : (recovered : Bool) (old : UpOrDown) (e : Event) → DownGives recovered old e given new → ⊥
   down_quiet recovered old (event.Put node text) (is, same) = quiet (results.Refused results.Down) is refl
   down_quiet recovered old (event.Tick node left) (is, same) = quiet (results.Refused results.Down) is refl
   down_quiet recovered old (event.Deliver node number) (is, same) = quiet (results.Refused results.Down) is refl
@@ -139,13 +139,13 @@ module _ (config : Config) (sent : List Message) (next : ℕ) (given : EventResu
   down_quiet recovered old (event.Info node table) (is, same) = quiet (results.Refused results.Down) is refl
   down_quiet recovered old (event.Outcome node text) (is, same) = quiet (results.Refused results.Down) is refl
 
-  goes_out : (recovered : Bool) (old : Seat) (e : Event) → SeatGives config sent next recovered old e given new → GoesOut e
+  goes_out : (recovered : Bool) (old : UpOrDown) (e : Event) → NodeGives config sent next recovered old e given new → GoesOut e
   goes_out recovered (IsUp views) e gives = up_out recovered views e gives
   goes_out recovered (IsDown records due) e gives = absurd (down_quiet recovered (IsDown records due) e gives)
 
 -- ---- the entry that sends a message is its sender's
 
-its_own : (node : ℕ) (e : Event) → node ≡ node_of e → is_question e ≡ false → concerns node e ≡ true
+its_own : (node : ℕ) (e : Event) → node ≡ node_of e → is_query e ≡ false → concerns node e ≡ true
 its_own node e same asks = ap₂ (λ (a b : Bool). a && not b) (eq-eqb (node_of e) node (sym same)) asks
 
 module _ (sent : List Message) where
@@ -155,19 +155,19 @@ module _ (sent : List Message) where
       subst (λ (b : Bool). Contains (if b then entry_of sent step was ∷ own node sent steps more else own node sent steps more) (entry_of sent step was)) (sym mine)
       (at_front (entry_of sent step was) (own node sent steps more))
 
-  behind_if : (b : Bool) (first entry : Entry) (entries : List Entry) → Contains entries entry → Contains (if b then first ∷ entries else entries) entry
+  behind_if : (b : Bool) (first entry : OwnEntry) (entries : List OwnEntry) → Contains entries entry → Contains (if b then first ∷ entries else entries) entry
   behind_if true first entry entries has = behind first entry entries has
   behind_if false first entry entries has = has
 
-  own_later : (node : ℕ) (step : Step) (steps : List Step) (was : Bool) (more : List Bool) (entry : Entry) → Contains (own node sent steps more) entry
+  own_later : (node : ℕ) (step : Step) (steps : List Step) (was : Bool) (more : List Bool) (entry : OwnEntry) → Contains (own node sent steps more) entry
       → Contains (own node sent (step ∷ steps) (was ∷ more)) entry
   own_later node step steps was more entry has = behind_if (concerns node step.event) (entry_of sent step was) entry (own node sent steps more) has
 
   abbrev IsSentIn : List Step → List Bool → Message → Type 0
-  IsSentIn steps recovered m = (entry : Entry) × Contains (own m.sender sent steps recovered) entry × Contains entry.sends m
+  IsSentIn steps recovered m = (entry : OwnEntry) × Contains (own m.sender sent steps recovered) entry × Contains entry.sends m
 
-  module _ (parts : PartsAnswer) (ticks : TicksSay) (config : Config) where
-    sent_here : (step : Step) (steps : List Step) (was : Bool) (more : List Bool) (old new : ℕ → Seat) (next number : ℕ) (m : Message) → StepFollows config sent next old step was new
+  module _ (parts : PartsAnswer) (ticks : TicksSay) (config : AgreementConfig) where
+    sent_here : (step : Step) (steps : List Step) (was : Bool) (more : List Bool) (old new : ℕ → UpOrDown) (next number : ℕ) (m : Message) → StepFollows config sent next old step was new
         → next ≤ number → number < next + count_of step.result → slice_get sent number ≡ Some m → IsSentIn (step ∷ steps) (was ∷ more) m
     sent_here step steps was more old new next number m (inl (member, gives, others)) from to is =
         let node = node_of step.event in
@@ -179,7 +179,7 @@ module _ (sent : List Message) where
     sent_here step steps was more old new next number m (inr (outside, refused, same)) from to is =
         absurd (omega (arith, from, to, ap count_of refused))
 
-    sent_in : (steps : List Step) (recovered : List Bool) (seats last : ℕ → Seat) (next number : ℕ) (m : Message) → StepsReach config sent seats next steps recovered last
+    sent_in : (steps : List Step) (recovered : List Bool) (seats last : ℕ → UpOrDown) (next number : ℕ) (m : Message) → StepsReach config sent seats next steps recovered last
         → next ≤ number → slice_get sent number ≡ Some m → IsSentIn steps recovered m
     sent_in [] recovered seats last next number m (none, end, same) from is = absurd (omega (arith, from, end, within_list sent number m is))
     sent_in (step ∷ steps) [] seats last next number m reaches from is = absurd reaches
@@ -193,7 +193,7 @@ module _ (sent : List Message) where
 
 -- ---- the law
 
-pub sent_is_recorded : KeepsRecords → PartsAnswer → TicksSay → (config : Config) (sent : List Message) (steps : List Step) (recovered : List Bool) (seats : ℕ → Seat) (m : Message)
+pub sent_is_recorded : KeepsRecords → PartsAnswer → TicksSay → (config : AgreementConfig) (sent : List Message) (steps : List Step) (recovered : List Bool) (seats : ℕ → UpOrDown) (m : Message)
     (kept : Record) → m.sender < config.members → Reaches config sent steps recovered seats → Contains sent m → record_of m ≡ Some kept
     → Contains (records_in (seats m.sender)) kept
 sent_is_recorded keeps parts ticks config sent steps recovered seats m kept member reaches (number, within, same) is =

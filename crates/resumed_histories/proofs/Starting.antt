@@ -5,18 +5,18 @@ use Rattle.std.specs.List.{Contains}
 use Rattle.std.proofs.lemmas.Bool.{cases_lt, cases_eq}
 use Rattle.std.proofs.lemmas.Option.{slice_get_read}
 use Rattle.ballots.specs.declared.message.Message.{Message}
-use Rattle.agreement_rules.specs.Views.{Config, Views, started_with}
+use Rattle.agreement_rules.specs.Views.{AgreementConfig, Views, started_with}
 use Rattle.histories.specs.Event as event
 use Rattle.histories.specs.EventResult as results
 use Rattle.histories.specs.History.{Step, History}
-use Rattle.histories.specs.Following.{Seat, IsUp, recovered_in, SeatGives, with_seat}
+use Rattle.histories.specs.Following.{UpOrDown, IsUp, recovered_in, NodeGives, with_seat}
 use Rattle.joined_histories.specs.Joined.{Precedes}
 use Rattle.resumed_histories.specs.StartingOver.{Hears, StartsOver, StartsOrHands}
 use Rattle.resumed_histories.proofs.Going.{StepsAlone, StepsMore, GoesOn, not_yet, one_more, seat_there, seat_besides, starts_again, is_handed}
 
 -- such steps leave this node so, and all others as they were
-record Leaves (config : Config) (sent : List Message) (steps : List Step) (old : ℕ → Seat) (node : ℕ) (seat : Seat) : Type 0 where
-  seats : ℕ → Seat
+record Leaves (config : AgreementConfig) (sent : List Message) (steps : List Step) (old : ℕ → UpOrDown) (node : ℕ) (seat : UpOrDown) : Type 0 where
+  seats : ℕ → UpOrDown
   goes : GoesOn config sent steps seats
   there : seats node ≡ seat
   besides : (other : ℕ) → other ≢ node → seats other ≡ old other
@@ -29,10 +29,10 @@ in_front x xs = (0, omega arith, refl)
 behind_front : {X : Type 0} (y x : X) (xs : List X) → Contains xs x → Contains (y ∷ xs) x
 behind_front y x xs has = (suc has.0, omega (arith, has.1), has.2)
 
-module _ (alone : StepsAlone) (steps_more : StepsMore) (config : Config) (sent : List Message) (steps : List Step) where
+module _ (alone : StepsAlone) (steps_more : StepsMore) (config : AgreementConfig) (sent : List Message) (steps : List Step) where
   -- ---- one node
 
-  hears_again : (told : List Message) (node : ℕ) (seats : ℕ → Seat) (views after : Views) → node < config.members → GoesOn config sent steps seats
+  hears_again : (told : List Message) (node : ℕ) (seats : ℕ → UpOrDown) (views after : Views) → node < config.members → GoesOn config sent steps seats
       → seats node ≡ IsUp views → ((m : Message) → Contains told m → Contains sent m) → Hears config node views told after
       → Leaves config sent steps seats node (IsUp after)
   hears_again [] node seats views after member goes at were_sent same = record {
@@ -44,9 +44,9 @@ module _ (alone : StepsAlone) (steps_more : StepsMore) (config : Config) (sent :
   hears_again (m ∷ told) node seats views after member goes at were_sent (plan, tells, is_due, rest) =
       let place = were_sent m (in_front m told) in
       let there = slice_get_read sent (length sent) place.0 m refl place.1 (sym place.2) in
-      let seat : Seat = IsUp plan.after in
-      let gives : SeatGives config sent (length sent) false (seats node) (event.Deliver node place.0) (results.Sent (length sent) 0) seat =
-      subst (λ (s : Seat). SeatGives config sent (length sent) false s (event.Deliver node place.0) (results.Sent (length sent) 0) seat) (sym at)
+      let seat : UpOrDown = IsUp plan.after in
+      let gives : NodeGives config sent (length sent) false (seats node) (event.Deliver node place.0) (results.Sent (length sent) 0) seat =
+      subst (λ (s : UpOrDown). NodeGives config sent (length sent) false s (event.Deliver node place.0) (results.Sent (length sent) 0) seat) (sym at)
       (is_handed config sent node place.0 views m plan place.1 there tells is_due) in
       let once : GoesOn config sent steps (with_seat seats node seat) =
       one_more config sent steps alone steps_more seats (event.Deliver node place.0) (results.Sent (length sent) 0) false seat goes tt member gives refl refl in
@@ -60,13 +60,13 @@ module _ (alone : StepsAlone) (steps_more : StepsMore) (config : Config) (sent :
         besides = λ other differs. rest_leaves.besides other differs ∙ seat_besides seats node seat other differs;
       }
 
-  member_starts_over : (told : List Message) (recovered : Bool) (node : ℕ) (seats : ℕ → Seat) (old : Seat) (after : Views) → node < config.members
+  member_starts_over : (told : List Message) (recovered : Bool) (node : ℕ) (seats : ℕ → UpOrDown) (old : UpOrDown) (after : Views) → node < config.members
       → GoesOn config sent steps seats → seats node ≡ old → ((m : Message) → Contains told m → Contains sent m)
       → Hears config node (started_with (recovered_in recovered old)) told after → Leaves config sent steps seats node (IsUp after)
   member_starts_over told recovered node seats old after member goes at were_sent hears =
       let views : Views = started_with (recovered_in recovered old) in
-      let gives : SeatGives config sent (length sent) recovered (seats node) (event.Restart node) results.Done (IsUp views) =
-      subst (λ (s : Seat). SeatGives config sent (length sent) recovered s (event.Restart node) results.Done (IsUp views)) (sym at)
+      let gives : NodeGives config sent (length sent) recovered (seats node) (event.Restart node) results.Done (IsUp views) =
+      subst (λ (s : UpOrDown). NodeGives config sent (length sent) recovered s (event.Restart node) results.Done (IsUp views)) (sym at)
       (starts_again config sent (length sent) recovered old node) in
       let once : GoesOn config sent steps (with_seat seats node (IsUp views)) =
       one_more config sent steps alone steps_more seats (event.Restart node) results.Done recovered (IsUp views) goes tt member gives tt refl in
@@ -81,11 +81,11 @@ module _ (alone : StepsAlone) (steps_more : StepsMore) (config : Config) (sent :
 
   -- ---- all nodes
 
-  module _ (left start : ℕ → Seat) (recovered : ℕ → Bool) (told : List Message) (were_sent : (m : Message) → Contains told m → Contains sent m)
+  module _ (left start : ℕ → UpOrDown) (recovered : ℕ → Bool) (told : List Message) (were_sent : (m : Message) → Contains told m → Contains sent m)
       (over : StartsOver config left recovered told start) where
     -- the nodes below this one have started over, and the others are as they were left
     record HaveStarted (count : ℕ) : Type 0 where
-      seats : ℕ → Seat
+      seats : ℕ → UpOrDown
       goes : GoesOn config sent steps seats
       below : (node : ℕ) → node < count → seats node ≡ start node
       above : (node : ℕ) → count ≤ node → seats node ≡ left node
@@ -125,7 +125,7 @@ module _ (alone : StepsAlone) (steps_more : StepsMore) (config : Config) (sent :
     all_start_over : GoesOn config sent steps left → GoesOn config sent steps start
     all_start_over goes = at_start (all_started goes config.members (omega arith))
 
-pub starts_over : StepsAlone → StepsMore → (config : Config) (left start : ℕ → Seat) (before : History) (recovered : ℕ → Bool) (told : List Message)
+pub starts_over : StepsAlone → StepsMore → (config : AgreementConfig) (left start : ℕ → UpOrDown) (before : History) (recovered : ℕ → Bool) (told : List Message)
     → Precedes config left before → ((m : Message) → Contains told m → Contains before.sent m) → StartsOver config left recovered told start
     → (more : List Step) × ((step : Step) → Contains more step → StartsOrHands step.event)
     × Precedes config start (record { config = config; sent = before.sent; steps = before.steps ++ more })

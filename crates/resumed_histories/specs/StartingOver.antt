@@ -9,12 +9,12 @@ use Rattle.ballots.specs.declared.record.Record.TheVariants.{Accepted as HasAcce
 use Rattle.ballots.specs.declared.message.Message.{Message}
 use Rattle.ballots.specs.declared.message.Body.{Body}
 use Rattle.ballots.specs.declared.message.Body.TheVariants.{Prepare, Promise, Nack, Accept, Accepted, Ask, Decided}
-use Rattle.agreement_rules.specs.Views.{Config, Views, started_with}
+use Rattle.agreement_rules.specs.Views.{AgreementConfig, Views, started_with}
 use Rattle.agreement_rules.specs.Due.{Plan, Plans}
 use Rattle.histories.specs.Due.{MessageIsDue}
 use Rattle.histories.specs.Event.{Event}
 use Rattle.histories.specs.Event as event
-use Rattle.histories.specs.Following.{Seat, IsUp, recovered_in}
+use Rattle.histories.specs.Following.{UpOrDown, IsUp, recovered_in}
 
 -- it tells its receiver which value was accepted or decided, and asks nothing of it
 abbrev pub TellsOfAValue : Body → Type 0
@@ -27,7 +27,7 @@ TellsOfAValue (Decided value) = Unit {0}
 TellsOfAValue Ask = ⊥
 
 -- the node is handed these messages, one after the other, by its rules, and has this then
-abbrev pub Hears : Config → ℕ → Views → List Message → Views → Type 0
+abbrev pub Hears : AgreementConfig → ℕ → Views → List Message → Views → Type 0
 Hears config node views [] after = after ≡ views
 Hears config node views (m ∷ told) after =
     (plan : Plan) × TellsOfAValue m.body × MessageIsDue config node views m (Plans plan)
@@ -35,8 +35,8 @@ Hears config node views (m ∷ told) after =
 
 -- Each member starts again with the records that it was left, and hears these messages. For each `recovered` says
 -- whether the record is among them that was due where it went down. Who is no member stays as it was.
-pub record StartsOver (config : Config) (left : ℕ → Seat) (recovered : ℕ → Bool) (told : List Message)
-    (start : ℕ → Seat) : Type 0 where
+pub record StartsOver (config : AgreementConfig) (left : ℕ → UpOrDown) (recovered : ℕ → Bool) (told : List Message)
+    (start : ℕ → UpOrDown) : Type 0 where
   pub members : (node : ℕ) → node < config.members
       → (views : Views) × (start node ≡ IsUp views)
       × Hears config node (started_with (recovered_in (recovered node) (left node))) told views
@@ -55,7 +55,7 @@ StartsOrHands (event.Info node table) = ⊥
 StartsOrHands (event.Outcome node text) = ⊥
 
 -- The message tells of an acceptance that is among the records with which its sender starts again.
-pub record IsRecorded (config : Config) (left : ℕ → Seat) (recovered : ℕ → Bool) (m : Message) : Type 0 where
+pub record IsRecorded (config : AgreementConfig) (left : ℕ → UpOrDown) (recovered : ℕ → Bool) (m : Message) : Type 0 where
   pub member : m.sender < config.members
   pub accepted : Acceptance
   pub tells : m ≡ message m.sender m.slot (Accepted accepted)

@@ -8,7 +8,7 @@ ghost use Rattle.ballots.specs.declared.record.Record.{Record};
 ghost use Rattle.ballots.specs.declared.record.Record.TheVariants.{Accepted as HasAccepted};
 ghost use Rattle.ballots.specs.declared.message.Message.{Message};
 ghost use Rattle.ballots.specs.declared.message.Body.TheVariants.{Accepted};
-ghost use Rattle.agreement_rules.specs.Views.{Config};
+ghost use Rattle.agreement_rules.specs.Views.{AgreementConfig};
 ghost use Rattle.agreement_rules.specs.Keeping.{record_of};
 ghost use Rattle.histories.specs.History.{Step, History};
 ghost use Rattle.table_types.specs.Uploads.{Upload};
@@ -16,7 +16,7 @@ ghost use Rattle.table_types.specs.Tables.{applied};
 ghost use Rattle.histories.specs.Texts.{IsTextOf};
 ghost use Rattle.histories.specs.Event.{Get, Outcome as AsksOutcome};
 ghost use Rattle.histories.specs.EventResult.{Answer, Outcome};
-ghost use Rattle.histories.specs.Following.{Seat, IsDown, recovered_in, Reaches, ReachesFrom};
+ghost use Rattle.histories.specs.Following.{UpOrDown, IsDown, recovered_in, Reaches, ReachesFrom};
 ghost use Rattle.histories.specs.Keeping.{records_in};
 ghost use Rattle.safe_histories.specs.Safe.{IsStep, StandsIn};
 ghost use Rattle.joined_histories.specs.Joined.{Precedes};
@@ -33,7 +33,7 @@ use joined_histories::laws::acknowledgements_outlast;
 /// history goes on by restarts and deliveries alone, and precedes nodes that start as these have started: nothing is
 /// sent or kept.
 pub fn a_cluster_starts_over()
-    ensures { (config : Config) (left start : ℕ → Seat) (before : History) (recovered : ℕ → Bool) (told : List Message)
+    ensures { (config : AgreementConfig) (left start : ℕ → UpOrDown) (before : History) (recovered : ℕ → Bool) (told : List Message)
         → Precedes config left before → ((m : Message) → Contains told m → Contains before.sent m)
         → StartsOver config left recovered told start
         → (more : List Step) × ((step : Step) → Contains more step → StartsOrHands step.event)
@@ -47,12 +47,12 @@ pub fn a_cluster_starts_over()
 /// it could, and its next start found the record (Lamport, *Paxos Made Simple*, section 2.5). Where a member is down
 /// and starts now, it may also be the record that was due where it went down, which this start finds.
 pub fn accepted_records_were_sent()
-    ensures kept { (config : Config) (sent : List Message) (steps : List Step) (recovered : List Bool)
-        (seats : ℕ → Seat) (node slot : ℕ) (told : Acceptance) → node < config.members
+    ensures kept { (config : AgreementConfig) (sent : List Message) (steps : List Step) (recovered : List Bool)
+        (seats : ℕ → UpOrDown) (node slot : ℕ) (told : Acceptance) → node < config.members
         → Reaches config sent steps recovered seats → Contains (records_in (seats node)) (HasAccepted slot told)
         → Contains sent (message node slot (Accepted told)) ⊎ WasFound node sent steps recovered slot told }
-    ensures started { (config : Config) (sent : List Message) (steps : List Step) (recovered : List Bool)
-        (seats : ℕ → Seat) (node slot : ℕ) (told : Acceptance) (found : Bool) → node < config.members
+    ensures started { (config : AgreementConfig) (sent : List Message) (steps : List Step) (recovered : List Bool)
+        (seats : ℕ → UpOrDown) (node slot : ℕ) (told : Acceptance) (found : Bool) → node < config.members
         → Reaches config sent steps recovered seats → Contains (recovered_in found (seats node)) (HasAccepted slot told)
         → Contains sent (message node slot (Accepted told)) ⊎ WasFound node sent steps recovered slot told
         ⊎ ((found ≡ true) × (records : List Record) × (seats node ≡ IsDown records (Some (HasAccepted slot told)))) }
@@ -65,7 +65,7 @@ pub fn accepted_records_were_sent()
 /// Made Simple*, section 2.5): of an Accepted the acceptance, of a Promise the promise, of a Prepare the begin of its
 /// attempt.
 pub fn what_was_sent_is_recorded()
-    ensures { (config : Config) (sent : List Message) (steps : List Step) (recovered : List Bool) (seats : ℕ → Seat)
+    ensures { (config : AgreementConfig) (sent : List Message) (steps : List Step) (recovered : List Bool) (seats : ℕ → UpOrDown)
         (m : Message) (kept : Record) → m.sender < config.members → Reaches config sent steps recovered seats
         → Contains sent m → record_of m ≡ Some kept → Contains (records_in (seats m.sender)) kept }
 {
@@ -84,7 +84,7 @@ pub fn what_clients_did_stands()
 /// among these, some history precedes nodes that start as these have started, in which clients did the same and were
 /// answered the same. Nothing more is asked of the records than that each member has back those that it was left.
 pub fn a_process_may_start_over()
-    ensures { (config : Config) (left start : ℕ → Seat) (before : History) (recovered : ℕ → Bool) (told : List Message)
+    ensures { (config : AgreementConfig) (left start : ℕ → UpOrDown) (before : History) (recovered : ℕ → Bool) (told : List Message)
         → Precedes config left before → ((m : Message) → Contains told m → IsRecorded config left recovered m)
         → StartsOver config left recovered told start
         → (whole : History) × Precedes config start whole × (of_clients whole.steps ≡ of_clients before.steps) }
@@ -99,14 +99,14 @@ pub fn a_process_may_start_over()
 /// the tail to a ticket of its table for that version or a later one; and a ticket that was answered before has the same
 /// bytes in the tail.
 pub fn acknowledgements_outlast_a_process()
-    ensures stands { (config : Config) (left start seats : ℕ → Seat) (before tail : History) (found : ℕ → Bool)
+    ensures stands { (config : AgreementConfig) (left start seats : ℕ → UpOrDown) (before tail : History) (found : ℕ → Bool)
         (told : List Message) (recovered : List Bool) (i j k l number version : ℕ) (text y : List ℕ) (upload : Upload)
         → Precedes config left before → ((m : Message) → Contains told m → IsRecorded config left found m)
         → StartsOver config left found told start → ReachesFrom config start tail.sent tail.steps recovered seats
         → IsTextOf text upload → IsStep before.steps i (AsksOutcome k text) (Outcome (applied number))
         → number ≤ version → IsStep tail.steps j (Get l upload.table version) (Answer y)
         → (1 ≤ number) × StandsIn upload.table y version number upload }
-    ensures same { (config : Config) (left start seats : ℕ → Seat) (before tail : History) (found : ℕ → Bool)
+    ensures same { (config : AgreementConfig) (left start seats : ℕ → UpOrDown) (before tail : History) (found : ℕ → Bool)
         (told : List Message) (recovered : List Bool) (i j k l version : ℕ) (table x y : List ℕ)
         → Precedes config left before → ((m : Message) → Contains told m → IsRecorded config left found m)
         → StartsOver config left found told start → ReachesFrom config start tail.sent tail.steps recovered seats

@@ -13,7 +13,7 @@ use Rattle.table_types.specs.Texts.{IsTextOf, AreUploadsOf}
 use Rattle.table_types.specs.Tables.{Version, Outcome, applied, unknown, is_same, first_of_all, effective, outcome_of}
 use Rattle.histories.specs.EventResult as results
 use Rattle.histories.specs.History.{Step}
-use Rattle.histories.specs.Following.{Seat, IsUp}
+use Rattle.histories.specs.Following.{UpOrDown, IsUp}
 use Rattle.histories.specs.Keeping.{records_in}
 use Rattle.safe_histories.specs.Learning.{since_restart, brings_down, Runs, HasTables}
 use Rattle.resumed_nodes.specs.Heard.{heard, starts_of}
@@ -96,8 +96,8 @@ within_list [] k x is = absurd (none_is_some x is)
 within_list (y ∷ xs) zero x is = omega arith
 within_list (y ∷ xs) (suc k) x is = omega (arith, within_list xs k x is)
 
-module _ (members : ℕ) (all : List (List Record)) (told : List Message) (others : ℕ → Seat) (count : length all ≡ members) where
-  abbrev pub start : ℕ → Seat
+module _ (members : ℕ) (all : List (List Record)) (told : List Message) (others : ℕ → UpOrDown) (count : length all ≡ members) where
+  abbrev pub start : ℕ → UpOrDown
   start node = slice_index_or (starts_of all told) node (others node)
 
   pub is_member : (node : ℕ) (own : List Record) → slice_get all node ≡ Some own → node < members
@@ -112,7 +112,7 @@ module _ (members : ℕ) (all : List (List Record)) (told : List Message) (other
       → (own : List Record) × (slice_get all node ≡ Some own) × Contains own kept
   has_its_records node kept member has =
       let place = there (λ (records : List Record). IsUp (heard records told)) all node (others node) (omega (arith, member, count)) in
-      (place.0, place.1, subst (λ (seat : Seat). Contains (records_in seat) kept) place.2 has)
+      (place.0, place.1, subst (λ (seat : UpOrDown). Contains (records_in seat) kept) place.2 has)
 
 -- ---- what the tables of a longer prefix have
 

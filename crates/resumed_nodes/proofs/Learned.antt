@@ -14,11 +14,11 @@ use Rattle.learner.specs.Votes.{MajorityAccepted}
 use Rattle.lawful_histories.specs.Majorities.{MajorityOf}
 use Rattle.lawful_histories.specs.Saying.{Accepted}
 use Rattle.lawful_histories.specs.Messages.{accepted, decided, Says, SaysBefore, KeepsTheRules}
-use Rattle.agreement_rules.specs.Views.{Config, HasPrefix}
+use Rattle.agreement_rules.specs.Views.{AgreementConfig, HasPrefix}
 use Rattle.agreement_rules.specs.Calling.{learner_calls_of}
 use Rattle.agreement_rules.specs.Keeping.{record_of}
 use Rattle.histories.specs.History.{Step}
-use Rattle.safe_histories.specs.Learning.{since_restart, handed_to, is_taken, delivered_in, heard, HasLearned, HasLearnedPrefix}
+use Rattle.safe_histories.specs.Learning.{since_restart, handed_to, is_taken, delivered_in, heard_since_restart, HasLearned, HasLearnedPrefix}
 use Rattle.chosen_records.specs.Chosen.{IsChosenAt, IsToldChosen, told_of}
 use Rattle.resumed_nodes.specs.Heard.{learner_calls_from}
 use Rattle.resumed_nodes.specs.Knowing.{TellsAll}
@@ -62,7 +62,7 @@ majority_of members P Q each most = record {
   each = λ a member is. each a member (most.each a member is);
 }
 
--- ---- what a member heard was sent
+-- ---- what a member heard_since_restart was sent
 
 module _ (sent : List Message) where
   handed_was_sent : (handed : Option ℕ) (m : Message) → option_and_then (λ number. slice_get sent number) handed ≡ Some m → Contains sent m
@@ -77,9 +77,9 @@ module _ (sent : List Message) where
   delivered_was_sent : (node : ℕ) (step : Step) (m : Message) → delivered_in sent node step ≡ Some m → Contains sent m
   delivered_was_sent node step m is = taken_was_sent (is_taken step.result) (handed_to node step.event) m is
 
-  heard_was_sent : (steps : List Step) (node : ℕ) (m : Message) → Contains (heard sent steps node) m → Contains sent m
+  heard_was_sent : (steps : List Step) (node : ℕ) (m : Message) → Contains (heard_since_restart sent steps node) m → Contains sent m
   heard_was_sent steps node m has =
-      All-contains (Contains sent) (heard sent steps node) m
+      All-contains (Contains sent) (heard_since_restart sent steps node) m
       (all_given (delivered_in sent node) (Contains sent) (delivered_was_sent node) (since_restart node steps)) has
 
   -- ---- what it learned a majority accepted
@@ -144,7 +144,7 @@ begins learned prefix (inr ([], is)) filled = ([], sym (append-nil learned ∙ (
 begins learned prefix (inr (value ∷ rest, is)) filled =
     absurd (filled value (ap (λ (l : List Value). slice_get l (length prefix)) is ∙ next_is prefix rest value))
 
-module _ (config : Config) (sent : List Message) (all : List (List Record)) (told : List Message) (rules : KeepsTheRules config.members sent)
+module _ (config : AgreementConfig) (sent : List Message) (all : List (List Record)) (told : List Message) (rules : KeepsTheRules config.members sent)
     (records : (m : Message) (kept : Record) → m.sender < config.members → Contains sent m → record_of m ≡ Some kept
     → (own : List Record) × (slice_get all m.sender ≡ Some own) × Contains own kept)
     (tells : TellsAll config all told)

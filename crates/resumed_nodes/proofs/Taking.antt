@@ -4,14 +4,14 @@ use Rattle.std.specs.List.{Contains}
 use Rattle.std.proofs.lemmas.List.{take_all}
 use Rattle.ballots.specs.declared.record.Record.{Record}
 use Rattle.ballots.specs.declared.message.Message.{Message}
-use Rattle.agreement_rules.specs.Views.{Config, Views, started_with}
+use Rattle.agreement_rules.specs.Views.{AgreementConfig, Views, started_with}
 use Rattle.agreement_rules.specs.Due.{Plans, IsMessageOf, has_seen}
 use Rattle.histories.specs.Due.{MessageIsDue}
 use Rattle.histories.specs.Due as owed
 use Rattle.node_core.specs.declared.plan.Planned.{Planned}
 use Rattle.node_events.specs.declared.event_result.Reason.{Reason}
 use Rattle.node_events.specs.declared.event_result.Reason.TheVariants as reason
-use Rattle.stored_nodes.specs.State.{SeatState, IsPlaced, StandsUp}
+use Rattle.stored_nodes.specs.State.{StoredNodeState, IsPlaced, StandsUp}
 use Rattle.stored_nodes.specs.Parts.{PlanAnswers, IsDoneFor, IsBrokenOff, StandsStill}
 use Rattle.resumed_histories.specs.StartingOver.{TellsOfAValue, Hears}
 use Rattle.resumed_nodes.specs.Heard.{heard}
@@ -25,25 +25,25 @@ none_is_some x same = cc
 
 -- ---- one message
 
-module _ {S : Type 0} (old mid : SeatState S) (views : Views) (m : Message) (tells : TellsOfAValue m.body) (up : StandsUp old views) where
+module _ {S : Type 0} (old mid : StoredNodeState S) (views : Views) (m : Message) (tells : TellsOfAValue m.body) (up : StandsUp old views) where
   -- it is refused
   pub refusal_answers : (why : Reason) → PlanAnswers old mid (owed.Deliver m) (Err why) → (told : HearFault) → IsHearFaultFor why told
       → HearAnswers {T = Unit {0}} old mid views m (Err told)
   refusal_answers reason.OutOfRange refuses told is =
       subst (λ (f : HearFault). HearAnswers {T = Unit {0}} old mid views m (Err f)) (sym is)
-      (tells, λ of. (refuses.1 views up).1 (subst (λ (c : Config). IsMessageOf c m) (sym up.config_is) of))
+      (tells, λ of. (refuses.1 views up).1 (subst (λ (c : AgreementConfig). IsMessageOf c m) (sym up.config_is) of))
   refusal_answers reason.SlotsSpent refuses told is = absurd (let other = (refuses.1 views up).0 in cc)
   refusal_answers reason.RoundsSpent refuses told is = absurd (let other = (refuses.1 views up).0 in cc)
   refusal_answers reason.OutOfMemory refuses told is = subst (λ (f : HearFault). HearAnswers {T = Unit {0}} old mid views m (Err f)) (sym is) tells
   refusal_answers reason.Down refuses told is = absurd (none_is_some up.node (sym refuses ∙ up.up))
   refusal_answers reason.NotSent refuses told is = absurd refuses
 
-  module _ (new : SeatState S) (same : StandsStill old mid) (planned : Planned) where
+  module _ (new : StoredNodeState S) (same : StandsStill old mid) (planned : Planned) where
     -- it is done
     pub done : IsDoneFor mid new views (owed.Deliver m) planned → (after : Views) × HasHeard old new views (m ∷ []) after
     done taken =
         let due : MessageIsDue old.config old.me views m (Plans taken.plan) =
-        subst (λ (c : Config). MessageIsDue c old.me views m (Plans taken.plan)) same.config_is
+        subst (λ (c : AgreementConfig). MessageIsDue c old.me views m (Plans taken.plan)) same.config_is
         (subst (λ (n : ℕ). MessageIsDue mid.config n views m (Plans taken.plan)) same.me_is taken.due) in (
           taken.plan.after,
           record {
@@ -63,18 +63,18 @@ module _ {S : Type 0} (old mid : SeatState S) (views : Views) (m : Message) (tel
 -- ---- all messages
 
 -- these messages were heard, whatever they leave
-abbrev pub HeardSo : {S : Type 0} → (old new : SeatState S) → List Message → Type 0
+abbrev pub HeardSo : {S : Type 0} → (old new : StoredNodeState S) → List Message → Type 0
 HeardSo old new told =
     (records : List Record) → IsPlaced old → StandsUp old (started_with records) → (after : Views) × HasHeard old new (started_with records) told after
 
-module _ {S : Type 0} (old mid new : SeatState S) (told : List Message) (place : ℕ) (m : Message) (within : place < length told) (item : m ≡ get_or told place m) (so_far : HeardSo old mid (take place told)) where
+module _ {S : Type 0} (old mid new : StoredNodeState S) (told : List Message) (place : ℕ) (m : Message) (within : place < length told) (item : m ≡ get_or told place m) (so_far : HeardSo old mid (take place told)) where
   -- and one more
   pub heard_more : ((views : Views) → IsPlaced mid → StandsUp mid views → (after : Views) × HasHeard mid new views (m ∷ []) after) → HeardSo old new (take (place + 1) told)
   heard_more hears = one_further (HeardSo old new) told place m within item (λ records placed up.
       let before = so_far records placed up in
       let once = hears before.0 before.1.placed before.1.stands in
       let again : Hears old.config old.me before.0 (m ∷ []) once.0 =
-      subst (λ (c : Config). Hears c old.me before.0 (m ∷ []) once.0) before.1.config_is
+      subst (λ (c : AgreementConfig). Hears c old.me before.0 (m ∷ []) once.0) before.1.config_is
       (subst (λ (n : ℕ). Hears mid.config n before.0 (m ∷ []) once.0) before.1.me_is once.1.hears) in (
         once.0,
         record {
@@ -94,7 +94,7 @@ module _ {S : Type 0} (old mid new : SeatState S) (told : List Message) (place :
       → HearAllAnswers {T = Unit {0}} old new records told (Err why)
   fails_as fault.NoValue views config answers records = (m, there, answers)
   fails_as fault.OutOfRange views config answers records =
-      (m, there, λ of. answers.1 (subst (λ (c : Config). IsMessageOf c m) (sym config) of))
+      (m, there, λ of. answers.1 (subst (λ (c : AgreementConfig). IsMessageOf c m) (sym config) of))
   fails_as fault.OutOfMemory views config answers records = tt
   fails_as fault.Down views config answers records = absurd answers
   fails_as (fault.Store store) views config answers records = absurd answers
@@ -107,7 +107,7 @@ module _ {S : Type 0} (old mid new : SeatState S) (told : List Message) (place :
       fails_as why before.0 before.1.config_is (answers before.0 before.1.placed before.1.stands) records
 
 -- all were heard
-pub heard_all : {S : Type 0} (old new : SeatState S) (told : List Message) (place : ℕ) → length told ≤ place → HeardSo old new (take place told)
+pub heard_all : {S : Type 0} (old new : StoredNodeState S) (told : List Message) (place : ℕ) → length told ≤ place → HeardSo old new (take place told)
     → (records : List Record) → IsPlaced old → StandsUp old (started_with records) → HasHeard old new (started_with records) told (heard records told)
 heard_all old new told place whole hears records placed up =
     let all : HeardSo old new told = subst (HeardSo old new) (take_all place told whole) hears in

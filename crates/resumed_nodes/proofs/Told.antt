@@ -7,10 +7,10 @@ use Rattle.ballots.specs.declared.record.Record.{Record}
 use Rattle.ballots.specs.declared.message.Message.{Message}
 use Rattle.ballots.specs.declared.message.Body.{Body}
 use Rattle.ballots.specs.declared.message.Body.TheVariants as body
-use Rattle.proposer.specs.Call.{Call as ProposerCall}
-use Rattle.learner.specs.Calls.{Call as LearnerCall}
+use Rattle.proposer.specs.Call.{ProposerCall}
+use Rattle.learner.specs.Calls.{LearnerCall}
 use Rattle.learner.specs.Calls as learner
-use Rattle.agreement_rules.specs.Views.{Config, Views, started_with, with_waiting}
+use Rattle.agreement_rules.specs.Views.{AgreementConfig, Views, started_with, with_waiting}
 use Rattle.agreement_rules.specs.Due.{Plan, also_learns, round_in, BodyKeeps, MessageKeeps}
 use Rattle.agreement_rules.specs.Calling.{learner_calls_of}
 use Rattle.histories.specs.Due.{BodyIsDue, LearnsOf}
@@ -33,7 +33,7 @@ greatest_from round told = fold (λ r m. max r (round_in m.body)) round told
 abbrev calls_from : List Message → List LearnerCall
 calls_from told = flat_map (λ m. learner_calls_of m.sender m.slot m.body) told
 
-module _ (config : Config) (node : ℕ) (records : List Record) (proposer : List ProposerCall) where
+module _ (config : AgreementConfig) (node : ℕ) (records : List Record) (proposer : List ProposerCall) where
   learns : (round : ℕ) (calls : List LearnerCall) (call : LearnerCall) (plan : Plan) → LearnsOf config (idle records round proposer calls) call plan
       → plan.after ≡ idle records round proposer (calls ++ call ∷ [])
   learns round calls call plan (uploads, left, has, still, is) =
@@ -62,13 +62,13 @@ module _ (config : Config) (node : ℕ) (records : List Record) (proposer : List
       all ∙ ap (λ (l : List LearnerCall). idle records (greatest_from round (m ∷ told)) proposer l)
       (append_assoc calls (learner_calls_of m.sender m.slot m.body) (calls_from told))
 
-pub heard_is_one : (config : Config) (node : ℕ) (records : List Record) (told : List Message) (after : Views) → Hears config node (started_with records) told after
+pub heard_is_one : (config : AgreementConfig) (node : ℕ) (records : List Record) (told : List Message) (after : Views) → Hears config node (started_with records) told after
     → after ≡ heard records told
 heard_is_one config node records told after hears = hears_on config node records [] told 0 [] after hears
 
 -- ---- one message more
 
-pub hears_more : (config : Config) (node : ℕ) (told : List Message) (views mid after : Views) (m : Message) → Hears config node views told mid → Hears config node mid (m ∷ []) after
+pub hears_more : (config : AgreementConfig) (node : ℕ) (told : List Message) (views mid after : Views) (m : Message) → Hears config node views told mid → Hears config node mid (m ∷ []) after
     → Hears config node views (told ++ m ∷ []) after
 hears_more config node [] views mid after m same more = subst (λ (v : Views). Hears config node v (m ∷ []) after) same more
 hears_more config node (first ∷ told) views mid after m (plan, tells, due, rest) more = (plan, tells, due, hears_more config node told plan.after mid after m rest more)
@@ -94,15 +94,15 @@ no_record records slot (body.Decided value) last tells keeps = some_is_none last
 no_record records slot body.Ask last tells keeps = tells
 
 -- no record is due to a message that tells of a value
-pub keeps_no_record : (config : Config) (views : Views) (m : Message) (last : Record) → TellsOfAValue m.body → MessageKeeps config views m (Some last) → ⊥
+pub keeps_no_record : (config : AgreementConfig) (views : Views) (m : Message) (last : Record) → TellsOfAValue m.body → MessageKeeps config views m (Some last) → ⊥
 keeps_no_record config views m last tells (inl (of, keeps)) = no_record views.records m.slot m.body last tells keeps
 keeps_no_record config views m last tells (inr (not, is)) = some_is_none last is
 
-learns_records : (config : Config) (views : Views) (call : LearnerCall) (plan : Plan) → LearnsOf config views call plan → plan.after.records ≡ views.records
+learns_records : (config : AgreementConfig) (views : Views) (call : LearnerCall) (plan : Plan) → LearnsOf config views call plan → plan.after.records ≡ views.records
 learns_records config views call plan (uploads, left, has, still, is) = ap (λ (p : Plan). p.after.records) is
 
 -- and its records are as they were
-pub same_records : (config : Config) (me : ℕ) (views : Views) (sender slot : ℕ) (said : Body) (plan : Plan) → TellsOfAValue said → BodyIsDue config me views sender slot said plan
+pub same_records : (config : AgreementConfig) (me : ℕ) (views : Views) (sender slot : ℕ) (said : Body) (plan : Plan) → TellsOfAValue said → BodyIsDue config me views sender slot said plan
     → plan.after.records ≡ views.records
 same_records config me views sender slot (body.Prepare ballot) plan tells due = absurd tells
 same_records config me views sender slot (body.Promise ballot report) plan tells due = absurd tells

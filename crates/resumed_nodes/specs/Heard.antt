@@ -4,11 +4,11 @@ use Rattle.std.specs.Prelude.{ℕ, max, List, [], map}
 use Rattle.std.specs.List.{fold, flat_map}
 use Rattle.ballots.specs.declared.record.Record.{Record}
 use Rattle.ballots.specs.declared.message.Message.{Message}
-use Rattle.learner.specs.Calls.{Call as LearnerCall}
+use Rattle.learner.specs.Calls.{LearnerCall}
 use Rattle.agreement_rules.specs.Views.{Views}
 use Rattle.agreement_rules.specs.Due.{round_in}
 use Rattle.agreement_rules.specs.Calling.{learner_calls_of}
-use Rattle.histories.specs.Following.{Seat, IsUp}
+use Rattle.histories.specs.Following.{UpOrDown, IsUp}
 
 -- the greatest round in messages
 abbrev pub greatest_round : List Message → ℕ
@@ -30,5 +30,5 @@ heard records told = record {
 }
 
 -- each node is up, with its own records, and heard the same messages
-abbrev pub starts_of : List (List Record) → List Message → List Seat
+abbrev pub starts_of : List (List Record) → List Message → List UpOrDown
 starts_of all told = map (λ records. IsUp (heard records told)) all

@@ -4,7 +4,7 @@ ghost use Rattle.std.specs.Prelude.{◌≡◌, [], length, map, IfErr, IfOk};
 ghost use Rattle.std.specs.List.{All};
 ghost use Rattle.std.specs.List.Sorted.{IsNonDecreasingBy};
 ghost use Rattle.chosen_records.specs.Chosen.{IsRecorded, TellsChosen, TellsDiffer};
-ghost use Rattle.resumed_nodes.specs.Starting.{AreStarted, MayBeTold, records_of};
+ghost use Rattle.resumed_nodes.specs.Starting.{AreStarted, MayBeTold, records_at_nodes};
 ghost use Rattle.resumed_nodes.specs.Knowing.{TellsAll};
 
 use ballots::{Message, OutOfMemory, Record};
@@ -27,12 +27,12 @@ pub fn chosen_by<S: Stable + Drop>(
 ) -> Result<Vec<Message>, ChosenFault>
     requires all { length nodes.now ≡ config.members }
     requires started { AreStarted config [] nodes.now }
-    ensures recorded { IfOk result (λ told. All (IsRecorded (records_of nodes.now)) told.items) }
+    ensures recorded { IfOk result (λ told. All (IsRecorded (records_at_nodes nodes.now)) told.items) }
     ensures may { IfOk result (λ told. All (MayBeTold config) told.items) }
-    ensures only { IfOk result (λ told. All (TellsChosen config.members (records_of nodes.now)) told.items) }
-    ensures chosen { IfOk result (λ told. TellsAll config (records_of nodes.now) told.items) }
+    ensures only { IfOk result (λ told. All (TellsChosen config.members (records_at_nodes nodes.now)) told.items) }
+    ensures chosen { IfOk result (λ told. TellsAll config (records_at_nodes nodes.now) told.items) }
     ensures rising { IfOk result (λ told. IsNonDecreasingBy (λ message. message.slot) told.items) }
-    ensures differ { IfErr result (TellsDiffer (records_of nodes.now)) }
+    ensures differ { IfErr result (TellsDiffer (records_at_nodes nodes.now)) }
 {
     let records = all_records(alloc, nodes)?;
     chosen_again(alloc, config.members(), records.as_slice())
@@ -43,7 +43,7 @@ fn all_records<S: Stable + Drop>(
     alloc: Global,
     nodes: &[StoredNode<S>],
 ) -> Result<Vec<Vec<Record>>, OutOfMemory>
-    ensures { IfOk result (λ all. map (λ own. own.items) all.items ≡ records_of nodes.now) }
+    ensures { IfOk result (λ all. map (λ own. own.items) all.items ≡ records_at_nodes nodes.now) }
 {
     let mut all = Vec::new(alloc);
     for node in nodes {

@@ -7,7 +7,7 @@ ghost use Rattle.agreement_rules.specs.Views.{Views, started_with};
 ghost use Rattle.resumed_histories.specs.StartingOver.{TellsOfAValue};
 ghost use Rattle.stored_nodes.specs.State.{IsPlaced, StandsUp};
 ghost use Rattle.resumed_nodes.specs.declared.fault.HearFault.TheVariants.{OutOfMemory};
-ghost use Rattle.resumed_nodes.specs.Starting.{AreStarted, HasHeardAgain, IsStarted, MayBeTold, records_of};
+ghost use Rattle.resumed_nodes.specs.Starting.{AreStarted, HasHeardAgain, IsStarted, MayBeTold, records_at_nodes};
 ghost use Rattle.resumed_nodes.specs.Hearing.{HearAnswers, HearLeaves, IsHearFaultFor, HearAllAnswers};
 
 use crate::fault::HearFault;
@@ -151,7 +151,7 @@ pub fn hear_together<R: Threads + Sync, S: Stable + Drop + Send>(
     requires started { AreStarted config [] nodes.items }
     requires may { All (MayBeTold config) told.now }
     ensures heard { IfOk result (λ heard. AreStarted config told.now heard.items) }
-    ensures records { IfOk result (λ heard. records_of heard.items ≡ records_of nodes.items) }
+    ensures records { IfOk result (λ heard. records_at_nodes heard.items ≡ records_at_nodes nodes.items) }
     ensures all { IfOk result (λ heard. length heard.items ≡ length nodes.items) }
 {
     let hear = |node: StoredNode<S>| -> Result<StoredNode<S>, AllocError>

@@ -4,15 +4,15 @@ ghost use Rattle.std.specs.Prelude.{◌≡◌, ℕ, Bool, List, length, Some, sl
 ghost use Rattle.std.specs.List.{All};
 ghost use Rattle.ballots.specs.declared.record.Record.{Record};
 ghost use Rattle.ballots.specs.declared.message.Message.{Message};
-ghost use Rattle.agreement_rules.specs.Views.{Config, Views, started_with};
+ghost use Rattle.agreement_rules.specs.Views.{AgreementConfig, Views, started_with};
 ghost use Rattle.histories.specs.History.{History};
-ghost use Rattle.histories.specs.Following.{Seat, recovered_in, at_first};
+ghost use Rattle.histories.specs.Following.{UpOrDown, recovered_in, at_first};
 ghost use Rattle.joined_histories.specs.Joined.{Precedes};
 ghost use Rattle.resumed_histories.specs.StartingOver.{Hears, StartsOver};
 ghost use Rattle.chosen_records.specs.Chosen.{IsRecorded};
-ghost use Rattle.stored_nodes.specs.State.{SeatState};
+ghost use Rattle.stored_nodes.specs.State.{StoredNodeState};
 ghost use Rattle.resumed_nodes.specs.Heard.{heard, starts_of};
-ghost use Rattle.resumed_nodes.specs.Starting.{AreStarted, GoesOn, records_of};
+ghost use Rattle.resumed_nodes.specs.Starting.{AreStarted, GoesOn, records_at_nodes};
 ghost use Rattle.resumed_nodes.specs.Knowing.{TellsAll, KnowsAcknowledged};
 
 use lawful_histories::laws::lawful_by_messages;
@@ -29,7 +29,7 @@ use table_types::laws::{tables_grow, uploads_count_once, uploads_have_one_encodi
 
 /// A node that starts with these records and hears these messages has one thing then, whichever node it is.
 pub fn what_is_heard_is_one()
-    ensures { (config : Config) (node : ℕ) (records : List Record) (told : List Message) (after : Views)
+    ensures { (config : AgreementConfig) (node : ℕ) (records : List Record) (told : List Message) (after : Views)
         → Hears config node (started_with records) told after → after ≡ heard records told }
 {}
 
@@ -37,7 +37,7 @@ pub fn what_is_heard_is_one()
 /// rules, the members have started over: each stands where the list of starts has it, and nobody beyond its end differs
 /// from a node that has nothing.
 pub fn members_have_started_over()
-    ensures { (config : Config) (left : ℕ → Seat) (before : History) (recovered : ℕ → Bool)
+    ensures { (config : AgreementConfig) (left : ℕ → UpOrDown) (before : History) (recovered : ℕ → Bool)
         (all : List (List Record)) (told : List Message) → Precedes config left before → length all ≡ config.members
         → ((node : ℕ) (records : List Record) → slice_get all node ≡ Some records
         → (records ≡ recovered_in (recovered node) (left node))
@@ -49,9 +49,9 @@ pub fn members_have_started_over()
 /// whatever history left them with these records: some history precedes them, in which clients did the same and were answered
 /// the same. So what an earlier process acknowledged holds in all that follows.
 pub fn members_go_on<S: Stable>()
-    ensures { (config : Config) (nodes : List (SeatState S)) (told : List Message)
-        → length nodes ≡ config.members → AreStarted config told nodes → All (IsRecorded (records_of nodes)) told
-        → GoesOn config (records_of nodes) told }
+    ensures { (config : AgreementConfig) (nodes : List (StoredNodeState S)) (told : List Message)
+        → length nodes ≡ config.members → AreStarted config told nodes → All (IsRecorded (records_at_nodes nodes)) told
+        → GoesOn config (records_at_nodes nodes) told }
 {
     members_have_started_over();
     a_process_may_start_over();
@@ -62,9 +62,9 @@ pub fn members_go_on<S: Stable>()
 /// Made Simple*, sections 2.3 and 2.5): an upload that was told to be applied as a version is applied as that version at
 /// each of them, and they have that version. [`chosen_by`](crate::chosen_by) gives such messages.
 pub fn members_know_what_was_acknowledged<S: Stable>()
-    ensures { (config : Config) (nodes : List (SeatState S)) (told : List Message)
-        → length nodes ≡ config.members → AreStarted config told nodes → All (IsRecorded (records_of nodes)) told
-        → TellsAll config (records_of nodes) told → KnowsAcknowledged config (records_of nodes) told }
+    ensures { (config : AgreementConfig) (nodes : List (StoredNodeState S)) (told : List Message)
+        → length nodes ≡ config.members → AreStarted config told nodes → All (IsRecorded (records_at_nodes nodes)) told
+        → TellsAll config (records_at_nodes nodes) told → KnowsAcknowledged config (records_at_nodes nodes) told }
 {
     members_go_on::<S>();
     what_clients_did_stands();

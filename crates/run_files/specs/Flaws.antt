@@ -16,7 +16,7 @@ use Rattle.run_files.specs.declared.flaw.ScheduleFlaw.TheVariants as schedule
 use Rattle.run_files.specs.declared.flaw.ScriptFlaw.{ScriptFlaw}
 use Rattle.run_files.specs.declared.flaw.ScriptFlaw.TheVariants as script
 use Rattle.run_files.specs.declared.schedule_file.Schedule.{Schedule}
-use Rattle.run_files.specs.declared.script.NodeCount.{NodeCount}
+use Rattle.run_files.specs.declared.script.ClusterSize.{ClusterSize}
 use Rattle.run_files.specs.declared.script.Script.{Script}
 use Rattle.run_files.specs.JsonValues.{number_at, array_at}
 use Rattle.run_files.specs.UploadValue.{MeansUpload}
@@ -123,12 +123,12 @@ ReadsSchedule file (Err flaw) = IsScheduleFlaw file flaw
 -- ---- a script
 
 -- there are so many nodes
-abbrev pub TellsNodes : Data → NodeCount → Type 0
+abbrev pub TellsNodes : Data → ClusterSize → Type 0
 TellsNodes d nodes = number_at (codes "nodes") d ≡ Some (node_count nodes)
 
 -- of the items of `calls` the one at this place tells no call of these nodes
 pub record HasBadCall (d : Data) (place : ℕ) : Type 0 where
-  pub nodes : NodeCount
+  pub nodes : ClusterSize
   pub counted : TellsNodes d nodes
   pub items : List Data
   pub there : HasItems (codes "calls") d items
@@ -137,8 +137,8 @@ pub record HasBadCall (d : Data) (place : ℕ) : Type 0 where
 -- this is the first thing that is wrong with the value
 abbrev pub IsScriptFlawIn : Data → ScriptFlaw → Type 0
 IsScriptFlawIn d (script.Text flaw) = ⊥
-IsScriptFlawIn d script.Nodes = (nodes : NodeCount) → TellsNodes d nodes → ⊥
-IsScriptFlawIn d script.Calls = ((nodes : NodeCount) × TellsNodes d nodes) × (array_at (codes "calls") d ≡ None)
+IsScriptFlawIn d script.Nodes = (nodes : ClusterSize) → TellsNodes d nodes → ⊥
+IsScriptFlawIn d script.Calls = ((nodes : ClusterSize) × TellsNodes d nodes) × (array_at (codes "calls") d ≡ None)
 IsScriptFlawIn d (script.Call place) = HasBadCall d place
 
 abbrev pub HasScriptFlaw : List ℕ → ScriptFlaw → Type 0

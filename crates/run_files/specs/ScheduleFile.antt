@@ -16,18 +16,18 @@ use Rattle.run_files.specs.JsonValues.{whole, words, number_at, array_at}
 use Rattle.run_files.specs.UploadValue.{MeansUpload}
 
 -- how many slots a tick of a schedule leaves to others at most
-abbrev pub most_left : ℕ
-most_left = 255
+abbrev pub most_left_read : ℕ
+most_left_read = 255
 
 -- Of these uploads: the word says that this happens to the node, by the values that stand behind the node's number. An
 -- upload is named by its place, from 0 on, and a version of a table as a ticket has it.
 abbrev pub Says : List (List ℕ) → List ℕ → ℕ → List Data → Event → Type 0
 Says uploads word node rest (Put own upload) =
     (word ≡ codes "put") × (own ≡ node) × (place : ℕ) × (rest ≡ whole place ∷ []) × (slice_get uploads place ≡ Some upload)
-Says uploads word node rest (Tick own left) = (word ≡ codes "tick") × (own ≡ node) × (rest ≡ whole left ∷ []) × (left ≤ most_left)
+Says uploads word node rest (Tick own left) = (word ≡ codes "tick") × (own ≡ node) × (rest ≡ whole left ∷ []) × (left ≤ most_left_read)
 Says uploads word node rest (Deliver own message) = (word ≡ codes "deliver") × (own ≡ node) × (rest ≡ whole message ∷ [])
 Says uploads word node rest (TickCut own left) =
-    (word ≡ codes "tickcut") × (own ≡ node) × (rest ≡ whole left ∷ []) × (left ≤ most_left)
+    (word ≡ codes "tickcut") × (own ≡ node) × (rest ≡ whole left ∷ []) × (left ≤ most_left_read)
 Says uploads word node rest (DeliverCut own message) =
     (word ≡ codes "delivercut") × (own ≡ node) × (rest ≡ whole message ∷ [])
 Says uploads word node rest (Restart own) = (word ≡ codes "restart") × (own ≡ node) × (rest ≡ [])

@@ -8,16 +8,16 @@ use Rattle.serde_json.specs.Find.{as_array}
 use Rattle.serde_json.specs.View.{items_of}
 use Rattle.table_types.specs.Valid.{IsTableName}
 use Rattle.table_types.specs.Ticket.{IsTableVersion}
-use Rattle.run_files.specs.declared.script.NodeCount.{NodeCount}
-use Rattle.run_files.specs.declared.script.NodeCount.TheVariants.{Three, Five}
+use Rattle.run_files.specs.declared.script.ClusterSize.{ClusterSize}
+use Rattle.run_files.specs.declared.script.ClusterSize.TheVariants.{Three, Five}
 use Rattle.run_files.specs.declared.script.CallRequest.{CallRequest}
 use Rattle.run_files.specs.declared.script.CallRequest.TheVariants.{Put, Get, Info}
-use Rattle.run_files.specs.declared.script.Call.{Call}
+use Rattle.run_files.specs.declared.script.ScriptCall.{ScriptCall}
 use Rattle.run_files.specs.JsonValues.{whole, words, number_at, array_at}
 use Rattle.run_files.specs.UploadValue.{MeansUpload}
 
 -- how many nodes there are
-abbrev pub node_count : NodeCount → ℕ
+abbrev pub node_count : ClusterSize → ℕ
 node_count Three = 3
 node_count Five = 5
 
@@ -30,7 +30,7 @@ Asks word rest (Get ticket) =
 Asks word rest (Info table) = (word ≡ codes "info") × (rest ≡ string table ∷ []) × IsTableName table
 
 -- The value is an array that says what is asked, and which of the nodes.
-pub record TellsCall (nodes : NodeCount) (d : Data) (call : Call) : Type 0 where
+pub record TellsCall (nodes : ClusterSize) (d : Data) (call : ScriptCall) : Type 0 where
   pub word : List ℕ
   pub rest : List Data
   pub items : as_array d ≡ Some (words word call.node rest)
@@ -38,7 +38,7 @@ pub record TellsCall (nodes : NodeCount) (d : Data) (call : Call) : Type 0 where
   pub asks : Asks word rest call.asked
 
 -- The file is an object with these; what else it has means nothing.
-pub record MeansScript (file : List ℕ) (nodes : NodeCount) (calls : List Call) : Type 0 where
+pub record MeansScript (file : List ℕ) (nodes : ClusterSize) (calls : List ScriptCall) : Type 0 where
   pub is_text : IsUtf8 file
   pub value : Data
   pub read : read_text file ≡ Some value

@@ -8,7 +8,7 @@ ghost use Rattle.node_events.specs.declared.event.Event.{Event as Happening};
 ghost use Rattle.run_files.specs.declared.fault.ValueFault.TheVariants.{OutOfMemory};
 ghost use Rattle.run_files.specs.Flaws.{ReadsItems};
 ghost use Rattle.run_files.specs.JsonValues.{whole};
-ghost use Rattle.run_files.specs.ScheduleFile.{Says, TellsEvent, most_left};
+ghost use Rattle.run_files.specs.ScheduleFile.{Says, TellsEvent, most_left_read};
 
 use crate::fault::ValueFault;
 use crate::json_values::{text_of, whole_of, words_of};
@@ -20,8 +20,8 @@ use uploads::Upload;
 
 /// How many slots a tick leaves to others: a number of eight bits.
 fn left_of(value: &Value) -> Result<u8, ValueFault>
-    ensures read { IfOk result (λ left. (view value.now ≡ whole left) × (left ≤ most_left)) }
-    ensures only { (left : ℕ) → view value.now ≡ whole left → left ≤ most_left → result ≡ Ok left }
+    ensures read { IfOk result (λ left. (view value.now ≡ whole left) × (left ≤ most_left_read)) }
+    ensures only { (left : ℕ) → view value.now ≡ whole left → left ≤ most_left_read → result ≡ Ok left }
 {
     match value.as_u64() {
         Some(left) if left <= 255 => Ok(left as u8),

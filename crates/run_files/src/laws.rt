@@ -3,8 +3,8 @@
 ghost use Rattle.std.specs.Prelude.{◌≡◌, ℕ, List};
 ghost use Rattle.node_events.specs.declared.event.Event.{Event as Happening};
 ghost use Rattle.traces.specs.declared.config.Config.{Config as Configured};
-ghost use Rattle.run_files.specs.declared.script.NodeCount.{NodeCount as Counted};
-ghost use Rattle.run_files.specs.declared.script.Call.{Call as Calling};
+ghost use Rattle.run_files.specs.declared.script.ClusterSize.{ClusterSize as Counted};
+ghost use Rattle.run_files.specs.declared.script.ScriptCall.{ScriptCall as Calling};
 ghost use Rattle.run_files.specs.ScheduleFile.{MeansSchedule};
 ghost use Rattle.run_files.specs.ScriptFile.{MeansScript};
 

@@ -20,5 +20,5 @@ mod upload_values;
 pub use fault::{ScheduleFault, ScriptFault};
 pub use flaw::{ScheduleFlaw, ScriptFlaw, TextFlaw};
 pub use schedule_file::{Schedule, read_schedule, schedule_flaw};
-pub use script::{Call, CallRequest, NodeCount, Script};
+pub use script::{CallRequest, ClusterSize, Script, ScriptCall};
 pub use script_file::{read_script, script_flaw};

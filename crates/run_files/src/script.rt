@@ -10,21 +10,21 @@ use uploads::Upload;
 
 /// How many nodes there are.
 #[derive(Clone, Copy, Debug, PartialEq, Eq)]
-pub enum NodeCount {
+pub enum ClusterSize {
     /// Three nodes, numbered 0 to 2.
     Three,
     /// Five nodes, numbered 0 to 4.
     Five,
 }
 
-impl NodeCount {
+impl ClusterSize {
     /// So many nodes, as those who agree.
     pub fn members(self) -> Members
         ensures { result ≡ node_count self }
     {
         let count = match self {
-            NodeCount::Three => 3,
-            NodeCount::Five => 5,
+            ClusterSize::Three => 3,
+            ClusterSize::Five => 5,
         };
         Members::new(count).unwrap()
     }
@@ -43,7 +43,7 @@ pub enum CallRequest {
 
 /// A call of a client.
 #[derive(Debug, Drop)]
-pub struct Call {
+pub struct ScriptCall {
     /// The number of the node that is called, from 0 on.
     pub node: u8,
     /// What it is asked.
@@ -54,7 +54,7 @@ pub struct Call {
 #[derive(Debug, Drop)]
 pub struct Script {
     /// How many nodes there are.
-    pub nodes: NodeCount,
+    pub nodes: ClusterSize,
     /// The calls, in order. Each is of a node whose number is below that.
-    pub calls: Vec<Call>,
+    pub calls: Vec<ScriptCall>,
 }

@@ -3,8 +3,8 @@
 ghost use Rattle.std.specs.Prelude.{◌≡◌, List, ℕ, Some, None, Ok, Err, IfOk, IfErr, IfSome, IsSome, MatchResult, IsUtf8, codes};
 ghost use Rattle.serde_json.specs.View.{view};
 ghost use Rattle.run_files.specs.declared.fault.ScriptFault.TheVariants.{OutOfMemory};
-ghost use Rattle.run_files.specs.declared.script.NodeCount.{NodeCount as Counted};
-ghost use Rattle.run_files.specs.declared.script.Call.{Call as Calling};
+ghost use Rattle.run_files.specs.declared.script.ClusterSize.{ClusterSize as Counted};
+ghost use Rattle.run_files.specs.declared.script.ScriptCall.{ScriptCall as Calling};
 ghost use Rattle.run_files.specs.Flaws.{IsScriptFlaw, ReadsScript};
 ghost use Rattle.run_files.specs.JsonValues.{number_at};
 ghost use Rattle.run_files.specs.ScriptFile.{MeansScript, node_count};
@@ -12,20 +12,20 @@ ghost use Rattle.run_files.specs.ScriptFile.{MeansScript, node_count};
 use crate::fault::ScriptFault;
 use crate::flaw::ScriptFlaw;
 use crate::json_values::{array_at, value_of};
-use crate::script::{NodeCount, Script};
+use crate::script::{ClusterSize, Script};
 use crate::script_words::calls_of;
 use serde_json::Value;
 use std::alloc::{AllocError, Global};
 
 /// How many nodes there are.
-fn nodes_of(value: &Value) -> Option<NodeCount>
+fn nodes_of(value: &Value) -> Option<ClusterSize>
     ensures read { IfSome result (λ nodes. number_at (codes "nodes") (view value.now) ≡ Some (node_count nodes)) }
     ensures only { (nodes : Counted) → number_at (codes "nodes") (view value.now) ≡ Some (node_count nodes)
         → IsSome result }
 {
     match value.get("nodes").and_then(Value::as_u64) {
-        Some(3) => Some(NodeCount::Three),
-        Some(5) => Some(NodeCount::Five),
+        Some(3) => Some(ClusterSize::Three),
+        Some(5) => Some(ClusterSize::Five),
         _ => None,
     }
 }

@@ -5,15 +5,15 @@ ghost use Rattle.serde_json.specs.Data.{string};
 ghost use Rattle.serde_json.specs.View.{view};
 ghost use Rattle.table_types.specs.Valid.{IsTableName};
 ghost use Rattle.run_files.specs.declared.fault.ValueFault.TheVariants.{OutOfMemory};
-ghost use Rattle.run_files.specs.declared.script.CallRequest.{CallRequest as Question};
-ghost use Rattle.run_files.specs.declared.script.Call.{Call as Calling};
+ghost use Rattle.run_files.specs.declared.script.CallRequest.{CallRequest as RequestMeaning};
+ghost use Rattle.run_files.specs.declared.script.ScriptCall.{ScriptCall as Calling};
 ghost use Rattle.run_files.specs.Flaws.{ReadsItems};
 ghost use Rattle.run_files.specs.ScriptFile.{Asks, TellsCall};
 
 use crate::event_words::ticket_of;
 use crate::fault::ValueFault;
 use crate::json_values::{text_of, words_of};
-use crate::script::{Call, CallRequest, NodeCount};
+use crate::script::{CallRequest, ClusterSize, ScriptCall};
 use crate::upload_values::upload_of;
 use serde_json::Value;
 use std::alloc::{AllocError, Global};
@@ -38,7 +38,7 @@ fn table_of(alloc: Global, value: &Value) -> Result<TableText, ValueFault>
 /// What this word asks with one thing more.
 fn asked_of_one(alloc: Global, word: &str, value: &Value) -> Result<CallRequest, ValueFault>
     ensures read { IfOk result (Asks word.now (view value.now ∷ [])) }
-    ensures refused { (asked : Question) → Asks word.now (view value.now ∷ []) asked
+    ensures refused { (asked : RequestMeaning) → Asks word.now (view value.now ∷ []) asked
         → IfErr result (λ fault. fault ≡ OutOfMemory) }
 {
     match word {
@@ -55,7 +55,7 @@ fn asked_of_two(
     version: &Value,
 ) -> Result<CallRequest, ValueFault>
     ensures read { IfOk result (Asks word.now (view table.now ∷ view version.now ∷ [])) }
-    ensures refused { (asked : Question) → Asks word.now (view table.now ∷ view version.now ∷ []) asked
+    ensures refused { (asked : RequestMeaning) → Asks word.now (view table.now ∷ view version.now ∷ []) asked
         → IfErr result (λ fault. fault ≡ OutOfMemory) }
 {
     match word {
@@ -67,7 +67,7 @@ fn asked_of_two(
 /// What this word asks with what stands behind it.
 fn asked_of(alloc: Global, word: &str, rest: &[Value]) -> Result<CallRequest, ValueFault>
     ensures read { IfOk result (Asks word.now (map view rest.now)) }
-    ensures refused { (asked : Question) → Asks word.now (map view rest.now) asked
+    ensures refused { (asked : RequestMeaning) → Asks word.now (map view rest.now) asked
         → IfErr result (λ fault. fault ≡ OutOfMemory) }
 {
     match rest {
@@ -78,7 +78,7 @@ fn asked_of(alloc: Global, word: &str, rest: &[Value]) -> Result<CallRequest, Va
 }
 
 /// The call that an array tells.
-fn call_of(alloc: Global, nodes: NodeCount, value: &Value) -> Result<Call, ValueFault>
+fn call_of(alloc: Global, nodes: ClusterSize, value: &Value) -> Result<ScriptCall, ValueFault>
     ensures read { IfOk result (TellsCall nodes (view value.now)) }
     ensures refused { (call : Calling) → TellsCall nodes (view value.now) call
         → IfErr result (λ fault. fault ≡ OutOfMemory) }
@@ -90,7 +90,7 @@ fn call_of(alloc: Global, nodes: NodeCount, value: &Value) -> Result<Call, Value
         return Err(ValueFault::Unfit);
     }
     let asked = asked_of(alloc, said.word, said.rest)?;
-    Ok(Call {
+    Ok(ScriptCall {
         node: said.node as u8,
         asked,
     })
@@ -99,9 +99,9 @@ fn call_of(alloc: Global, nodes: NodeCount, value: &Value) -> Result<Call, Value
 /// The calls that these values tell, in order; or the place of the first that tells none.
 pub(crate) fn calls_of(
     alloc: Global,
-    nodes: NodeCount,
+    nodes: ClusterSize,
     values: &[Value],
-) -> Result<Result<Vec<Call>, usize>, AllocError>
+) -> Result<Result<Vec<ScriptCall>, usize>, AllocError>
     ensures { IfOk result (ReadsItems (TellsCall nodes) (map view values.now)) }
 {
     let mut calls = Vec::new(alloc);

@@ -2,7 +2,7 @@
 use Rattle.std.proofs.Common.{◌≡◌, ℕ, ◌<◌, ◌≤◌, inl, inr, Bool, false, true≢false, List, take, Option, Some, slice_get, refl, sym, ◌∙◌, eq-eqb, arith}
 use Rattle.ballots.specs.declared.message.Message.{Message}
 use Rattle.ballots.specs.declared.record.Record.{Record}
-use Rattle.agreement_rules.specs.Views.{Config}
+use Rattle.agreement_rules.specs.Views.{AgreementConfig}
 use Rattle.agreement_rules.specs.Due.{Refusal}
 use Rattle.agreement_rules.specs.Due as due
 use Rattle.histories.specs.Event.{Event, node_of}
@@ -10,7 +10,7 @@ use Rattle.histories.specs.Event as event
 use Rattle.histories.specs.EventResult.{EventResult}
 use Rattle.histories.specs.EventResult as results
 use Rattle.histories.specs.History.{Step, History}
-use Rattle.histories.specs.Following.{Seat, IsUp, IsDown, reason_of, DownGives, SeatGives, StepFollows, Follows}
+use Rattle.histories.specs.Following.{UpOrDown, IsUp, IsDown, reason_of, DownGives, NodeGives, StepFollows, Follows}
 use Rattle.safe_histories.specs.Learning.{is_restart_of, Runs}
 use Rattle.safe_histories.proofs.Running.{Agrees}
 use Rattle.safe_histories.proofs.Seats.{AllAgree}
@@ -33,7 +33,7 @@ unsent_other given unsent down = cc (sym unsent ∙ down)
 
 -- ---- a node that is down refuses all but a restart
 
-down_refuses : (recovered : Bool) (records : List Record) (due : Option Record) (e : Event) (given : EventResult) (seat : Seat) → is_restart_of (node_of e) e ≡ false
+down_refuses : (recovered : Bool) (records : List Record) (due : Option Record) (e : Event) (given : EventResult) (seat : UpOrDown) → is_restart_of (node_of e) e ≡ false
     → DownGives recovered (IsDown records due) e given seat → given ≡ results.Refused results.Down
 down_refuses recovered records due (event.Put node text) given seat none gives = gives.0
 down_refuses recovered records due (event.Tick node left) given seat none gives = gives.0
@@ -47,14 +47,14 @@ down_refuses recovered records due (event.Outcome node text) given seat none giv
 
 -- ---- each step of a history
 
-module _ (config : Config) (sent : List Message) (done : List Step) (next : ℕ) (recovered : Bool) where
-  seat_refuses : (old : Seat) (e : Event) (given : EventResult) (seat : Seat) → Agrees sent done (node_of e) old → (Runs (node_of e) done → ⊥)
-      → is_restart_of (node_of e) e ≡ false → SeatGives config sent next recovered old e given seat → given ≡ results.Refused results.Down
+module _ (config : AgreementConfig) (sent : List Message) (done : List Step) (next : ℕ) (recovered : Bool) where
+  seat_refuses : (old : UpOrDown) (e : Event) (given : EventResult) (seat : UpOrDown) → Agrees sent done (node_of e) old → (Runs (node_of e) done → ⊥)
+      → is_restart_of (node_of e) e ≡ false → NodeGives config sent next recovered old e given seat → given ≡ results.Refused results.Down
   seat_refuses (IsUp views) e given seat agrees down none gives = absurd (down agrees.0)
   seat_refuses (IsDown records due) e given seat agrees down none gives = down_refuses recovered records due e given seat none gives
 
-  seat_other : (old : Seat) (e : Event) (given : EventResult) (seat : Seat) → Agrees sent done (node_of e) old → Runs (node_of e) done
-      → SeatGives config sent next recovered old e given seat → IsOther given
+  seat_other : (old : UpOrDown) (e : Event) (given : EventResult) (seat : UpOrDown) → Agrees sent done (node_of e) old → Runs (node_of e) done
+      → NodeGives config sent next recovered old e given seat → IsOther given
   seat_other (IsUp views) e given seat agrees runs gives =
       elim (up_other results.Down down_apart config sent next recovered views e given seat gives) as (λ _. IsOther given) [
         | inl is ↦ is
@@ -69,7 +69,7 @@ module _ (history : History) (follows : Follows history) (place : ℕ) (step : S
       let at = at_place history follows place step is in
       by_cases at.next at.recovered at.seats at.after at.holds at.follows
     where
-      by_cases : (next : ℕ) (recovered : Bool) (old new : ℕ → Seat) → AllAgree history.sent (take place history.steps) history.config.members (take place history.steps) old
+      by_cases : (next : ℕ) (recovered : Bool) (old new : ℕ → UpOrDown) → AllAgree history.sent (take place history.steps) history.config.members (take place history.steps) old
           → StepFollows history.config history.sent next old step recovered new → step.result ≡ results.Refused results.Down
       by_cases next recovered old new all (inl (member, gives, others)) =
           seat_refuses history.config history.sent (take place history.steps) next recovered (old (node_of step.event)) step.event step.result (new (node_of step.event))
@@ -81,7 +81,7 @@ module _ (history : History) (follows : Follows history) (place : ℕ) (step : S
       let at = at_place history follows place step is in
       by_cases at.next at.recovered at.seats at.after at.holds at.follows
     where
-      by_cases : (next : ℕ) (recovered : Bool) (old new : ℕ → Seat) → AllAgree history.sent (take place history.steps) history.config.members (take place history.steps) old
+      by_cases : (next : ℕ) (recovered : Bool) (old new : ℕ → UpOrDown) → AllAgree history.sent (take place history.steps) history.config.members (take place history.steps) old
           → StepFollows history.config history.sent next old step recovered new → IsOther step.result
       by_cases next recovered old new all (inl (member, gives, others)) =
           seat_other history.config history.sent (take place history.steps) next recovered (old (node_of step.event)) step.event step.result (new (node_of step.event))
@@ -93,7 +93,7 @@ module _ (history : History) (follows : Follows history) (place : ℕ) (step : S
       let at = at_place history follows place step is in
       by_cases at.next at.recovered at.seats at.after at.follows
     where
-      by_cases : (next : ℕ) (recovered : Bool) (old new : ℕ → Seat) → StepFollows history.config history.sent next old step recovered new
+      by_cases : (next : ℕ) (recovered : Bool) (old new : ℕ → UpOrDown) → StepFollows history.config history.sent next old step recovered new
           → step.result ≡ results.Refused results.OutOfRange
       by_cases next recovered old new (inl (member, gives, others)) = absurd (omega (arith, past, member))
       by_cases next recovered old new (inr (beyond, gives, same)) = gives

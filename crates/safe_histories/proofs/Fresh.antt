@@ -18,7 +18,7 @@ use Rattle.histories.specs.EventResult.{EventResult}
 use Rattle.histories.specs.EventResult as results
 use Rattle.histories.specs.History.{Step, History}
 use Rattle.histories.specs.Following.{GetGivesIfAble, Follows}
-use Rattle.safe_histories.specs.Learning.{brings_up, brings_down, since_restart, Runs, delivered_in, heard, HasLearnedPrefix, HasTables}
+use Rattle.safe_histories.specs.Learning.{brings_up, brings_down, since_restart, Runs, delivered_in, heard_since_restart, HasLearnedPrefix, HasTables}
 use Rattle.safe_histories.specs.Safe.{IsStep}
 use Rattle.safe_histories.proofs.Lists.{In, Begins, some_same, none_is_some, in_from_contains, contains_from_in, in_left, some_at, take_one_more, at_end}
 use Rattle.safe_histories.proofs.Texts.{OneEncoding, one_text}
@@ -29,13 +29,13 @@ use Rattle.safe_histories.proofs.Prefixes.{TableLaws, prefixes_begin, longer_tab
 use Rattle.safe_histories.proofs.Answered.{first_so_many}
 use Rattle.safe_histories.proofs.Safety.{serves, told, told_by}
 
--- ---- what a node has heard grows while nothing brings it up or down
+-- ---- what a node has heard_since_restart grows while nothing brings it up or down
 
 module _ (sent : List Message) (node : ℕ) (steps : List Step) (from : ℕ) where
-  -- it runs, and has heard what it had heard
+  -- it runs, and has heard_since_restart what it had heard_since_restart
   record GoesOn (place : ℕ) : Type 0 where
     pub runs : Runs node (take place steps)
-    pub has_heard : Begins (heard sent (take from steps) node) (heard sent (take place steps) node)
+    pub has_heard : Begins (heard_since_restart sent (take from steps) node) (heard_since_restart sent (take place steps) node)
 
   one_more : (place : ℕ) (step : Step) → slice_get steps place ≡ Some step → brings_up node step ≡ false → brings_down node step ≡ false → GoesOn place
       → GoesOn (suc place)
@@ -43,12 +43,12 @@ module _ (sent : List Message) (node : ℕ) (steps : List Step) (from : ℕ) whe
       let done = take place steps in
       let more = take_one_more place steps step is in
       let new = cons_option (delivered_in sent node step) [] in
-      let front = heard sent (take from steps) node in
+      let front = heard_since_restart sent (take from steps) node in
       record {
         runs = ap (λ l. list_any (brings_down node) (since_restart node l)) more ∙ downs_more node done step no_up ∙ ap₂ (λ a b. a || b) on.runs no_down;
         has_heard = (
           on.has_heard.0 ++ new,
-          ap (λ l. heard sent l node) more ∙ heard_more sent node done step no_up ∙ ap (λ l. l ++ new) on.has_heard.1 ∙ append_assoc front on.has_heard.0 new,
+          ap (λ l. heard_since_restart sent l node) more ∙ heard_more sent node done step no_up ∙ ap (λ l. l ++ new) on.has_heard.1 ∙ append_assoc front on.has_heard.0 new,
         );
       }
 
@@ -57,7 +57,7 @@ module _ (sent : List Message) (node : ℕ) (steps : List Step) (from : ℕ) whe
     after : Runs node (take from steps) → (d : ℕ) → from + d ≤ to → GoesOn (from + d)
     after runs zero le =
         let same : from ≡ from + 0 = omega arith in
-        subst GoesOn same (record { runs = runs; has_heard = ([], sym (append-nil (heard sent (take from steps) node))) })
+        subst GoesOn same (record { runs = runs; has_heard = ([], sym (append-nil (heard_since_restart sent (take from steps) node))) })
     after runs (suc d) le =
         let place = from + d in
         let at = some_at steps place (omega (arith, within, le)) in
@@ -89,12 +89,12 @@ learned_more members before later slot value begins (inr (ballot, most)) = inr (
 )
 
 module _ (members : ℕ) (sent : List Message) (lawful : IsLawful members sent) (laws : ChoiceLaws) (steps later : List Step) (node : ℕ)
-    (grown : Begins (heard sent steps node) (heard sent later node)) where
+    (grown : Begins (heard_since_restart sent steps node) (heard_since_restart sent later node)) where
   no_shorter : (xs ys rest : List Value) → HasLearnedPrefix members sent steps node xs → HasLearnedPrefix members sent later node ys → xs ≡ ys ++ rest
       → Begins xs ys
   no_shorter xs ys [] is also more = ([], sym (more ∙ append-nil ys) ∙ sym (append-nil xs))
   no_shorter xs ys (v ∷ rest) is also more =
-      absurd (also.gap v (learned_more members (heard sent steps node) (heard sent later node) (length ys) v grown
+      absurd (also.gap v (learned_more members (heard_since_restart sent steps node) (heard_since_restart sent later node) (length ys) v grown
       (is.learned (length ys) v (ap (λ l. slice_get l (length ys)) more ∙ at_end ys rest v))))
 
   longer_prefix : (xs ys : List Value) → HasLearnedPrefix members sent steps node xs → HasLearnedPrefix members sent later node ys → Begins xs ys

@@ -1,4 +1,4 @@
--- What a node heard, as its learner is told of it: in a lawful history both say the same.
+-- What a node heard_since_restart, as its learner is told of it: in a lawful history both say the same.
 use Rattle.std.proofs.Common.{◌≡◌, ℕ, suc, ◌<◌, ◌⊎◌, inl, inr, Bool, true, false, cond, if◌then◌else◌, List, [], ◌∷◌, length, Option, Some, None, slice_get, refl, ap, subst, eq-eqb, arith}
 use Rattle.std.specs.Option.{option_and_then}
 use Rattle.std.specs.List.{Contains, filter_map}
@@ -13,17 +13,17 @@ use Rattle.lawful_histories.specs.Saying.{Saying, Silent, Accepted, of_one, says
 use Rattle.lawful_histories.specs.Lawful.{Said, SaidBefore, IsLawful, IsChosen, OneValue}
 use Rattle.lawful_histories.specs.HistoryLaws.{DecidedIsChosen}
 use Rattle.lawful_histories.specs.Messages.{accepted, decided}
-use Rattle.learner.specs.Calls.{Call, IsLearned}
+use Rattle.learner.specs.Calls.{LearnerCall, IsLearned}
 use Rattle.learner.specs.Calls as call
 use Rattle.learner.specs.Votes.{MajorityAccepted, IsDecidedOrChosen}
 use Rattle.agreement_rules.specs.Views.{HasPrefix}
 use Rattle.histories.specs.History.{Step}
-use Rattle.safe_histories.specs.Learning.{since_restart, is_taken, handed_to, delivered_in, heard, HasLearnedPrefix}
+use Rattle.safe_histories.specs.Learning.{since_restart, is_taken, handed_to, delivered_in, heard_since_restart, HasLearnedPrefix}
 use Rattle.safe_histories.proofs.Lists.{In, some_same, none_is_some, in_from_contains, contains_from_in, in_from_at, in_filter_map, filter_map_in}
 
 -- ---- the calls of messages
 
-abbrev pub call_of : (sender slot : ℕ) → Body → Option Call
+abbrev pub call_of : (sender slot : ℕ) → Body → Option LearnerCall
 call_of sender slot (body.Prepare ballot) = None
 call_of sender slot (body.Promise ballot report) = None
 call_of sender slot (body.Nack ballot promised) = None
@@ -32,31 +32,31 @@ call_of sender slot (body.Accepted acceptance) = Some (call.Accepted sender slot
 call_of sender slot body.Ask = None
 call_of sender slot (body.Decided value) = Some (call.Decided slot value)
 
-abbrev pub call_in : Message → Option Call
+abbrev pub call_in : Message → Option LearnerCall
 call_in m = call_of m.sender m.slot m.body
 
-abbrev pub calls_of : List Message → List Call
+abbrev pub calls_of : List Message → List LearnerCall
 calls_of messages = filter_map call_in messages
 
 -- the message is one that makes this call
-abbrev pub Makes : Message → Call → Type 0
+abbrev pub Makes : Message → LearnerCall → Type 0
 Makes m (call.Accepted acceptor slot ballot value) = m ≡ accepted acceptor slot ballot value
 Makes m (call.Decided slot value) = (sender : ℕ) × (m ≡ decided sender slot value)
 
-makes : (sender slot : ℕ) (b : Body) (c : Call) → call_of sender slot b ≡ Some c → Makes (message sender slot b) c
+makes : (sender slot : ℕ) (b : Body) (c : LearnerCall) → call_of sender slot b ≡ Some c → Makes (message sender slot b) c
 makes sender slot (body.Prepare ballot) c is = absurd (none_is_some c is)
 makes sender slot (body.Promise ballot report) c is = absurd (none_is_some c is)
 makes sender slot (body.Nack ballot promised) c is = absurd (none_is_some c is)
 makes sender slot (body.Accept proposal) c is = absurd (none_is_some c is)
 makes sender slot (body.Accepted acceptance) c is =
-    let made : Call = call.Accepted sender slot acceptance.ballot acceptance.value in
+    let made : LearnerCall = call.Accepted sender slot acceptance.ballot acceptance.value in
     subst (Makes (message sender slot (body.Accepted acceptance))) (some_same made c is) refl
 makes sender slot body.Ask c is = absurd (none_is_some c is)
 makes sender slot (body.Decided value) c is =
-    let made : Call = call.Decided slot value in
+    let made : LearnerCall = call.Decided slot value in
     subst (Makes (message sender slot (body.Decided value))) (some_same made c is) (sender, refl)
 
-made_by : (messages : List Message) (c : Call) → In (calls_of messages) c → (m : Message) × In messages m × Makes m c
+made_by : (messages : List Message) (c : LearnerCall) → In (calls_of messages) c → (m : Message) × In messages m × Makes m c
 made_by messages c there =
     let by = in_filter_map call_in messages c there in
     (by.0, by.1, makes by.0.sender by.0.slot by.0.body c by.2)
@@ -85,7 +85,7 @@ decided_told messages sender slot value there =
     contains_from_in (calls_of messages) (call.Decided slot value)
     (filter_map_in call_in messages (decided sender slot value) (call.Decided slot value) there refl)
 
--- ---- what is heard was sent
+-- ---- what is heard_since_restart was sent
 
 handed_there : (sent : List Message) (m : Message) (b : Bool) (o : Option ℕ)
     → (if b then option_and_then (λ number. slice_get sent number) o else None) ≡ Some m → In sent m
@@ -93,7 +93,7 @@ handed_there sent m true None is = absurd (none_is_some m is)
 handed_there sent m true (Some number) is = in_from_at sent number m is
 handed_there sent m false o is = absurd (none_is_some m is)
 
-pub heard_was_sent : (sent : List Message) (steps : List Step) (node : ℕ) (m : Message) → In (heard sent steps node) m → In sent m
+pub heard_was_sent : (sent : List Message) (steps : List Step) (node : ℕ) (m : Message) → In (heard_since_restart sent steps node) m → In sent m
 heard_was_sent sent steps node m there =
     let by = in_filter_map (delivered_in sent node) (since_restart node steps) m there in
     handed_there sent m (is_taken by.0.result) (handed_to node by.0.event) by.2
@@ -108,10 +108,10 @@ Learned members messages slot value =
 
 -- laws of a learner
 pub record LearnerLaws : Type 0 where
-  pub decided : (members : ℕ) (calls : List Call) (slot : ℕ) (v : Value) → Contains calls (call.Decided slot v) → (w : Value) × IsLearned members calls slot w
-  pub chosen : (members : ℕ) (calls : List Call) (slot : ℕ) (ballot : Ballot) → MajorityAccepted members calls slot ballot
+  pub decided : (members : ℕ) (calls : List LearnerCall) (slot : ℕ) (v : Value) → Contains calls (call.Decided slot v) → (w : Value) × IsLearned members calls slot w
+  pub chosen : (members : ℕ) (calls : List LearnerCall) (slot : ℕ) (ballot : Ballot) → MajorityAccepted members calls slot ballot
       → (w : Value) × IsLearned members calls slot w
-  pub only : (members : ℕ) (calls : List Call) (slot : ℕ) (v : Value) → IsLearned members calls slot v → IsDecidedOrChosen members calls slot v
+  pub only : (members : ℕ) (calls : List LearnerCall) (slot : ℕ) (v : Value) → IsLearned members calls slot v → IsDecidedOrChosen members calls slot v
 
 -- laws of lawful histories
 pub record ChoiceLaws : Type 0 where
@@ -208,18 +208,18 @@ module _ (members : ℕ) (sent : List Message) (lawful : IsLawful members sent) 
 
 module _ (members : ℕ) (sent : List Message) (lawful : IsLawful members sent) (laws : ChoiceLaws) (learner : LearnerLaws) (steps : List Step) (node : ℕ)
     (values : List Value) where
-  pub prefix_is_learned : HasPrefix members (calls_of (heard sent steps node)) values → HasLearnedPrefix members sent steps node values
+  pub prefix_is_learned : HasPrefix members (calls_of (heard_since_restart sent steps node)) values → HasLearnedPrefix members sent steps node values
   prefix_is_learned prefix = record {
     learned = λ slot value at.
-        learned_of_calls members sent lawful laws (heard sent steps node) (heard_was_sent sent steps node) learner slot value (prefix.learned slot value at);
+        learned_of_calls members sent lawful laws (heard_since_restart sent steps node) (heard_was_sent sent steps node) learner slot value (prefix.learned slot value at);
     gap = λ value is. prefix.gap value
-        (calls_of_learned members sent lawful laws (heard sent steps node) (heard_was_sent sent steps node) learner (length values) value is);
+        (calls_of_learned members sent lawful laws (heard_since_restart sent steps node) (heard_was_sent sent steps node) learner (length values) value is);
   }
 
-  pub learned_is_prefix : HasLearnedPrefix members sent steps node values → HasPrefix members (calls_of (heard sent steps node)) values
+  pub learned_is_prefix : HasLearnedPrefix members sent steps node values → HasPrefix members (calls_of (heard_since_restart sent steps node)) values
   learned_is_prefix prefix = record {
     learned = λ slot value at.
-        calls_of_learned members sent lawful laws (heard sent steps node) (heard_was_sent sent steps node) learner slot value (prefix.learned slot value at);
+        calls_of_learned members sent lawful laws (heard_since_restart sent steps node) (heard_was_sent sent steps node) learner slot value (prefix.learned slot value at);
     gap = λ value is. prefix.gap value
-        (learned_of_calls members sent lawful laws (heard sent steps node) (heard_was_sent sent steps node) learner (length values) value is);
+        (learned_of_calls members sent lawful laws (heard_since_restart sent steps node) (heard_was_sent sent steps node) learner (length values) value is);
   }

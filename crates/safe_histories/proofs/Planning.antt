@@ -16,17 +16,18 @@ use Rattle.acceptor.specs.Answering.{Prepares}
 use Rattle.acceptor.specs.declared.answer.Answer.{Answer}
 use Rattle.acceptor.specs.declared.answer.Answer.TheVariants as answer
 use Rattle.acceptor.specs.Restored.{acceptance_in, IsLastHighest, IsRestored}
-use Rattle.proposer.specs.Call.{Begun, Promise as Promised_call, Call as Asked, Begins, Promises, Nacks}
-use Rattle.proposer.specs.Choosing.{Report, first_of_each, reports_of, Chooses}
-use Rattle.proposer.specs.Attempting.{Answers, answering, counted}
+use Rattle.proposer.specs.Call.{Reach, OneSlot, AllFrom, Begun, Promise as Promised_call, PromiseFrom, ProposerCall as Asked, Begins, Promises, PromisesFrom, Nacks}
+use Rattle.proposer.specs.Choosing.{PromiseReport, first_of_each, reports_of, Chooses}
+use Rattle.proposer.specs.Reporting.{said_of}
+use Rattle.proposer.specs.Attempting.{Answers, answering, answering_at, counted}
 use Rattle.proposer.specs.Attempting as attempting
-use Rattle.proposer.specs.Promised.{IsAnswerTo}
-use Rattle.learner.specs.Calls.{Call as Told, IsLearned}
+use Rattle.proposer.specs.Promised.{IsAnswerTo, IsAnswerFrom}
+use Rattle.learner.specs.Calls.{LearnerCall as Told, IsLearned}
 use Rattle.learner.specs.Calls as told
 use Rattle.learner.specs.Votes.{IsDecidedOrChosen}
 use Rattle.decided_log.specs.Asked.{asked_of, decided_message}
 use Rattle.table_types.specs.Uploads.{Upload}
-use Rattle.agreement_rules.specs.Views.{Config, Views, HasPrefix}
+use Rattle.agreement_rules.specs.Views.{AgreementConfig, Views, HasPrefix}
 use Rattle.agreement_rules.specs.Due.{Due, Plan, record_due, BodyKeeps, Refuses, Plans, Aim, Attempts, AsksFrom, quietly, IsAim, begins, AsksAt, AimIsDue, TickIsDue, has_seen, answers_with, sends_alone, ReplyToPrepare, ReplyToAccept, also_proposes, accept_of}
 use Rattle.histories.specs.Due.{Input, InputKeeps, PutIsDue, waits_too, AreStillWaiting, LearnsOf, BodyIsDue, IsDue}
 use Rattle.agreement_rules.specs.Due as due
@@ -38,16 +39,19 @@ use Rattle.safe_histories.proofs.Putting.{Each, each_none, each_one, each_more, 
 
 -- laws of a proposer
 pub record ProposerLaws : Type 0 where
-  pub highest : (candidate : Value) (reports : List Report) (v : Value) → Chooses candidate reports v
+  pub highest : (candidate : Value) (reports : List PromiseReport) (v : Value) → Chooses candidate reports v
       → ((reports ≡ []) × (v ≡ candidate)) ⊎ ((ballot : Ballot) × Contains reports (record { ballot = ballot; value = v })
-      × ((other : Report) → Contains reports other → IsBelow ballot other.ballot → ⊥))
-  pub reports : (promises : List Promised_call) (report : Report) → Contains (reports_of promises) report
+      × ((other : PromiseReport) → Contains reports other → IsBelow ballot other.ballot → ⊥))
+  pub reports : (promises : List Promised_call) (report : PromiseReport) → Contains (reports_of promises) report
       ↔ ((promise : Promised_call) × Contains promises promise × (promise.report ≡ Some report))
   pub first : (promises : List Promised_call) (promise : Promised_call) → Contains (first_of_each promises) promise
       ↔ ((before : List Promised_call) × (after : List Promised_call) × (promises ≡ before ++ promise ∷ after)
       × ((other : Promised_call) → Contains before other → other.sender ≢ promise.sender))
-  pub answering : (members : ℕ) (begun : Begun) (since : List Asked) (promise : Promised_call)
+  pub answering : (members : ℕ) (begun : Begun) (since : List Asked) (promise : Promised_call) → begun.reach ≡ OneSlot
       → Contains (answering members begun since) promise ↔ (Contains since (Promises promise) × IsAnswerTo members begun promise)
+  pub answering_from : (members : ℕ) (begun : Begun) (slot : ℕ) (since : List Asked) (promise : Promised_call) → begun.reach ≡ AllFrom
+      → Contains (answering_at members begun slot since) promise
+      ↔ ((said : PromiseFrom) × Contains since (PromisesFrom said) × IsAnswerFrom members begun said × (promise ≡ said_of slot said))
 
 -- what is answered to one who asks
 abbrev pub EachAsked : Type 0
@@ -81,7 +85,16 @@ module _ (T : List ℕ → Type 0) where
   -- ---- proposers
 
   module _ (proposer : ProposerLaws) where
-    reported_from : (members : ℕ) (begun : Begun) (calls : List Asked) (report : Report) → Each (AskedFrom T) calls
+    told_from : (members : ℕ) (begun : Begun) (calls : List Asked) (promise : Promised_call) (reach : Reach) → begun.reach ≡ reach → Each (AskedFrom T) calls
+        → Contains (answering members begun calls) promise → ReportFrom T promise.report
+    told_from members begun calls promise OneSlot is from came =
+        let call = (proposer.answering members begun calls promise is).0 came in
+        from (Promises promise) (in_from_contains calls (Promises promise) call.0)
+    told_from members begun calls promise AllFrom is from came =
+        let said = (proposer.answering_from members begun begun.slot calls promise is).0 came in
+        subst (λ (p : Promised_call). ReportFrom T p.report) (sym said.3) (from (PromisesFrom said.0) (in_from_contains calls (PromisesFrom said.0) said.1) begun.slot)
+
+    reported_from : (members : ℕ) (begun : Begun) (calls : List Asked) (report : PromiseReport) → Each (AskedFrom T) calls
         → Contains (reports_of (counted members begun calls)) report → ValueFrom T report.value
     reported_from members begun calls report from there =
         let by = (proposer.reports (counted members begun calls) report).0 there in
@@ -90,8 +103,7 @@ module _ (T : List ℕ → Type 0) where
         let came : Contains (answering members begun calls) promised =
         contains_from_in (answering members begun calls) promised
         (subst (λ l. In l promised) (sym first.2) (in_right first.0 (promised ∷ first.1) promised (inl refl))) in
-        let call = (proposer.answering members begun calls promised).0 came in
-        subst (ReportFrom T) by.2 (from (Promises promised) (in_from_contains calls (Promises promised) call.0))
+        subst (ReportFrom T) by.2 (told_from members begun calls promised begun.reach refl from came)
 
     chosen_from : (members : ℕ) (calls : List Asked) (promise : Promised_call) (accept : ℕ × Ballot × Value) → Each (AskedFrom T) calls → ReportFrom T promise.report
         → attempting.LeadsToAccept members calls promise accept → ValueFrom T accept.2
@@ -175,7 +187,7 @@ module _ (T : List ℕ → Type 0) where
     };
   }
 
-  put_from : (config : Config) (views : Views) (text : List ℕ) (plan : Plan) → ViewsFrom T views → T text → PutIsDue config views text (Plans plan) → PlanFrom T plan
+  put_from : (config : AgreementConfig) (views : Views) (text : List ℕ) (plan : Plan) → ViewsFrom T views → T text → PutIsDue config views text (Plans plan) → PlanFrom T plan
   put_from config views text plan from is (inl (known, same)) = planned plan (quietly views) same (quiet_from views from)
   put_from config views text plan from is (inr (new, nothing, left, same)) = planned plan (quietly (waits_too views text)) same (quiet_from (waits_too views text) (record {
     records = from.records;
@@ -184,7 +196,7 @@ module _ (T : List ℕ → Type 0) where
     learner_calls = from.learner_calls;
   }))
 
-  aimed_from : (config : Config) (views : Views) (left slot : ℕ) (value : Value) → ViewsFrom T views → IsAim config views left (Attempts slot value) → ValueFrom T value
+  aimed_from : (config : AgreementConfig) (views : Views) (left slot : ℕ) (value : Value) → ViewsFrom T views → IsAim config views left (Attempts slot value) → ValueFrom T value
   aimed_from config views left slot value from (inl (text, others, waits, is, free)) =
       subst (ValueFrom T) (sym is) (from.waiting text (subst (λ l. In l text) (sym waits) (inl refl)))
   aimed_from config views left slot value from (inr (values, waits, is, prefix, at, gap)) = subst (ValueFrom T) (sym is) tt
@@ -197,24 +209,24 @@ module _ (T : List ℕ → Type 0) where
       records = each_more (RecordFrom T) views.records (Began ballot) from.records tt;
       waiting = from.waiting;
       proposer_calls = each_more (AskedFrom T) views.proposer_calls
-          (Begins (record { slot = slot; seen_round = views.seen_round; candidate = value; ballot = ballot })) from.proposer_calls is;
+          (Begins (record { slot = slot; reach = OneSlot; seen_round = views.seen_round; candidate = value; ballot = ballot })) from.proposer_calls is;
       learner_calls = from.learner_calls;
     };
   }
 
-  asks_from : (config : Config) (me : ℕ) (views : Views) (slot : ℕ) (plan : Plan) → ViewsFrom T views → AsksAt config me views slot plan → PlanFrom T plan
+  asks_from : (config : AgreementConfig) (me : ℕ) (views : Views) (slot : ℕ) (plan : Plan) → ViewsFrom T views → AsksAt config me views slot plan → PlanFrom T plan
   asks_from config me views slot plan from (inl (lt, same)) =
       planned plan (sends_alone views (message me slot Ask ∷ [])) same
       (alone_from views (message me slot Ask ∷ []) from (each_one (MessageFrom T) (message me slot Ask) tt))
   asks_from config me views slot plan from (inr (last, same)) = planned plan (quietly views) same (quiet_from views from)
 
-  aim_from : (config : Config) (me left : ℕ) (views : Views) (aim : Aim) (plan : Plan) → ViewsFrom T views → IsAim config views left aim
+  aim_from : (config : AgreementConfig) (me left : ℕ) (views : Views) (aim : Aim) (plan : Plan) → ViewsFrom T views → IsAim config views left aim
       → AimIsDue config me views aim (Plans plan) → PlanFrom T plan
   aim_from config me left views (Attempts slot value) plan from is (highest, lt, is_highest, less, same) =
       planned plan _ same (begun_from me slot views value _ from (aimed_from config views left slot value from is))
   aim_from config me left views (AsksFrom slot) plan from is asks = asks_from config me views slot plan from asks
 
-  tick_from : (config : Config) (me : ℕ) (views : Views) (left : ℕ) (plan : Plan) → ViewsFrom T views → TickIsDue config me views left (Plans plan) → PlanFrom T plan
+  tick_from : (config : AgreementConfig) (me : ℕ) (views : Views) (left : ℕ) (plan : Plan) → ViewsFrom T views → TickIsDue config me views left (Plans plan) → PlanFrom T plan
   tick_from config me views left plan from (inl (more, is)) = absurd (refused_plan due.OutOfRange plan is)
   tick_from config me views left plan from (inr (aim, le, is_aim, is)) = aim_from config me left views aim plan from is_aim is
 
@@ -228,6 +240,7 @@ module _ (T : List ℕ → Type 0) where
       planned plan (sends_alone views (message me slot (Nack ballot promised) ∷ [])) is
       (alone_from views (message me slot (Nack ballot promised) ∷ []) from (each_one (MessageFrom T) (message me slot (Nack ballot promised)) tt))
   prepare_from me views old new slot ballot answer.Granted plan from restored prepares never = absurd never
+  prepare_from me views old new slot ballot (answer.PromiseFrom reports) plan from restored prepares never = absurd never
 
   accepted_from : (me : ℕ) (views : Views) (slot : ℕ) (proposal : Acceptance) (reply : Answer) (plan : Plan) → ViewsFrom T views → ValueFrom T proposal.value
       → ReplyToAccept me views slot proposal reply plan → PlanFrom T plan
@@ -238,6 +251,7 @@ module _ (T : List ℕ → Type 0) where
       planned plan (sends_alone views (message me slot (Nack proposal.ballot promised) ∷ [])) is
       (alone_from views (message me slot (Nack proposal.ballot promised) ∷ []) from (each_one (MessageFrom T) (message me slot (Nack proposal.ballot promised)) tt))
   accepted_from me views slot proposal (answer.Promise report) plan from value never = absurd never
+  accepted_from me views slot proposal (answer.PromiseFrom reports) plan from value never = absurd never
 
   too_from : (views : Views) (call : Asked) → ViewsFrom T views → AskedFrom T call → ViewsFrom T (also_proposes views call)
   too_from views call from is = record {
@@ -247,7 +261,7 @@ module _ (T : List ℕ → Type 0) where
     learner_calls = from.learner_calls;
   }
 
-  learns_from : (config : Config) (views : Views) (call : Told) (plan : Plan) → ViewsFrom T views → ToldFrom T call → LearnsOf config views call plan → PlanFrom T plan
+  learns_from : (config : AgreementConfig) (views : Views) (call : Told) (plan : Plan) → ViewsFrom T views → ToldFrom T call → LearnsOf config views call plan → PlanFrom T plan
   learns_from config views call plan from is (uploads, left, has, waits, same) = planned plan _ same (quiet_from _ (record {
     records = from.records;
     waiting = λ text there. from.waiting text (kept_waiting uploads views.waiting left waits text there);
@@ -256,7 +270,7 @@ module _ (T : List ℕ → Type 0) where
   }))
 
   module _ (proposer : ProposerLaws) (learner : LearnerLaws) (each : EachAsked) where
-    body_from : (config : Config) (me : ℕ) (views : Views) (sender slot : ℕ) (b : Body) (plan : Plan) → ViewsFrom T views → BodyFrom T b
+    body_from : (config : AgreementConfig) (me : ℕ) (views : Views) (sender slot : ℕ) (b : Body) (plan : Plan) → ViewsFrom T views → BodyFrom T b
         → BodyIsDue config me views sender slot b plan → PlanFrom T plan
     body_from config me views sender slot (Prepare ballot) plan from is (old, new, reply, restored, prepares, replies) =
         prepare_from me views old new slot ballot reply plan from restored prepares replies
@@ -285,7 +299,7 @@ module _ (T : List ℕ → Type 0) where
     InputFrom (input.Tick left) = Unit {0}
     InputFrom (input.Deliver m) = MessageFrom T m
 
-    pub due_from : (config : Config) (me : ℕ) (views : Views) (i : Input) (plan : Plan) → ViewsFrom T views → InputFrom i → IsDue config me views i (Plans plan)
+    pub due_from : (config : AgreementConfig) (me : ℕ) (views : Views) (i : Input) (plan : Plan) → ViewsFrom T views → InputFrom i → IsDue config me views i (Plans plan)
         → PlanFrom T plan
     due_from config me views (input.Put text) plan from is due = put_from config views text plan from is due
     due_from config me views (input.Tick left) plan from is due = tick_from config me views left plan from due
@@ -297,7 +311,7 @@ module _ (T : List ℕ → Type 0) where
     kept_is : (kept was : Option Record) → kept ≡ was → DueFrom T was → DueFrom T kept
     kept_is kept was same from = subst (DueFrom T) (sym same) from
 
-    due_keeps : (config : Config) (me : ℕ) (views : Views) (left : ℕ) (due : Due) → ViewsFrom T views → TickIsDue config me views left due
+    due_keeps : (config : AgreementConfig) (me : ℕ) (views : Views) (left : ℕ) (due : Due) → ViewsFrom T views → TickIsDue config me views left due
         → DueFrom T (record_due due)
     due_keeps config me views left (Refuses refusal) from is = tt
     due_keeps config me views left (Plans plan) from is = (tick_from config me views left plan from is).kept
@@ -313,7 +327,7 @@ module _ (T : List ℕ → Type 0) where
     body_keeps records slot (Decided value) kept is same = kept_is kept None same tt
     body_keeps records slot Ask kept is same = kept_is kept None same tt
 
-    pub kept_from : (config : Config) (me : ℕ) (views : Views) (i : Input) (kept : Option Record) → ViewsFrom T views → InputFrom i
+    pub kept_from : (config : AgreementConfig) (me : ℕ) (views : Views) (i : Input) (kept : Option Record) → ViewsFrom T views → InputFrom i
         → InputKeeps config me views i kept → DueFrom T kept
     kept_from config me views (input.Put text) kept from is same = kept_is kept None same tt
     kept_from config me views (input.Tick left) kept from is (due, is_due, same) =

@@ -10,7 +10,7 @@ use Rattle.table_types.specs.Valid.{IsUpload}
 use Rattle.table_types.specs.Tables.{Version, version_of, Outcome, applied, unknown, outcome_of}
 use Rattle.histories.specs.Texts.{AreUploadsOf}
 use Rattle.histories.specs.History.{Step}
-use Rattle.safe_histories.specs.Learning.{heard, HasLearnedPrefix, HasTables}
+use Rattle.safe_histories.specs.Learning.{heard_since_restart, HasLearnedPrefix, HasTables}
 use Rattle.safe_histories.proofs.Lists.{In, Begins, one_begins}
 use Rattle.safe_histories.proofs.Texts.{OneEncoding, are_of_texts, uploads_begin}
 use Rattle.safe_histories.proofs.Heard.{ChoiceLaws, heard_was_sent, learned_is_chosen}
@@ -28,8 +28,8 @@ module _ (members : ℕ) (sent : List Message) (lawful : IsLawful members sent) 
       → HasLearnedPrefix members sent later other ys → (slot : ℕ) (x y : Value) → slice_get xs slot ≡ Some x → slice_get ys slot ≡ Some y → x ≡ y
   learned_is_one steps later node other xs ys is also slot x y at there =
       laws.one members sent slot x y lawful
-      (learned_is_chosen members sent lawful laws (heard sent steps node) (heard_was_sent sent steps node) slot x (is.learned slot x at))
-      (learned_is_chosen members sent lawful laws (heard sent later other) (heard_was_sent sent later other) slot y (also.learned slot y there))
+      (learned_is_chosen members sent lawful laws (heard_since_restart sent steps node) (heard_was_sent sent steps node) slot x (is.learned slot x at))
+      (learned_is_chosen members sent lawful laws (heard_since_restart sent later other) (heard_was_sent sent later other) slot y (also.learned slot y there))
 
   pub prefixes_begin : (steps later : List Step) (node other : ℕ) (xs ys : List Value) → HasLearnedPrefix members sent steps node xs
       → HasLearnedPrefix members sent later other ys → Begins xs ys ⊎ Begins ys xs

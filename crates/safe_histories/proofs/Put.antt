@@ -15,8 +15,8 @@ use Rattle.table_types.specs.Valid.{IsUpload}
 use Rattle.histories.specs.Event as event
 use Rattle.histories.specs.EventResult as results
 use Rattle.histories.specs.History.{Step, History}
-use Rattle.histories.specs.Following.{Seat, IsUp, IsDown, at_first, Follows}
-use Rattle.safe_histories.specs.Learning.{Runs, heard, HasTables}
+use Rattle.histories.specs.Following.{UpOrDown, IsUp, IsDown, at_first, Follows}
+use Rattle.safe_histories.specs.Learning.{Runs, heard_since_restart, HasTables}
 use Rattle.safe_histories.specs.Safe.{IsStep, ServedWasPut}
 use Rattle.safe_histories.proofs.Lists.{In, in_from_contains, at_from_in, in_map, at_taken}
 use Rattle.safe_histories.proofs.Texts.{are_of_texts}
@@ -63,15 +63,15 @@ value_put T upload (UploadValue text) is same from = subst T same from
 
 -- ---- a node that serves
 
-told_from : (history : History) (T : List ℕ → Type 0) (done : List Step) (node : ℕ) (seat : Seat) → Agrees history.sent done node seat → Runs node done
-    → SeatFrom T seat → Each (ToldFrom T) (calls_of (heard history.sent done node))
+told_from : (history : History) (T : List ℕ → Type 0) (done : List Step) (node : ℕ) (seat : UpOrDown) → Agrees history.sent done node seat → Runs node done
+    → SeatFrom T seat → Each (ToldFrom T) (calls_of (heard_since_restart history.sent done node))
 told_from history T done node (IsUp views) agrees runs from = subst (Each (ToldFrom T)) agrees.1 from.learner_calls
 told_from history T done node (IsDown records due) agrees runs from = absurd (true≢false (sym agrees ∙ runs))
 
 module _ (history : History) (follows : Follows history) (lawful : IsLawful history.config.members history.sent) (laws : ChoiceLaws) (learner : LearnerLaws)
     (proposer : ProposerLaws) (each : EachAsked) where
   -- each step has what stands, and it was put
-  abbrev Stands : List Step → (ℕ → Seat) → ℕ → Type 0
+  abbrev Stands : List Step → (ℕ → UpOrDown) → ℕ → Type 0
   Stands done seats next = AllAgree history.sent done history.config.members done seats × AllPut proposer learner each history.config history.sent done seats next
 
   put_at : (place : ℕ) (step : Step) → slice_get history.steps place ≡ Some step → Reached history.config history.sent Stands (take place history.steps) step
@@ -86,7 +86,7 @@ module _ (history : History) (follows : Follows history) (lawful : IsLawful hist
 
   -- what a node that served was told was put
   served_told : (place node version : ℕ) (table bytes : List ℕ) → IsStep history.steps place (event.Get node table version) (results.Answer bytes)
-      → Each (ToldFrom (WasPut (take place history.steps))) (calls_of (heard history.sent (take place history.steps) node))
+      → Each (ToldFrom (WasPut (take place history.steps))) (calls_of (heard_since_restart history.sent (take place history.steps) node))
   served_told place node version table bytes is =
       let done = take place history.steps in
       let at = put_at place (step_of (event.Get node table version) (results.Answer bytes)) is in
@@ -94,7 +94,7 @@ module _ (history : History) (follows : Follows history) (lawful : IsLawful hist
       told_from history (WasPut done) done node (at.seats node) (at.holds.0 node serving.0) serving.1 (at.holds.1.0 node)
 
   upload_put : (done : List Step) (node : ℕ) (uploads : List Upload) (upload : Upload)
-      → Each (ToldFrom (WasPut done)) (calls_of (heard history.sent done node))
+      → Each (ToldFrom (WasPut done)) (calls_of (heard_since_restart history.sent done node))
       → HasTables history.config.members history.sent done node uploads → In uploads upload → WasPut done (upload_text upload)
   upload_put done node uploads upload told has there =
       let of_text = are_of_texts (map value_bytes has.values) uploads upload has.are there in
@@ -102,7 +102,7 @@ module _ (history : History) (follows : Follows history) (lawful : IsLawful hist
       let at = at_from_in has.values by.0 by.1 in
       let prefix = learned_is_prefix history.config.members history.sent lawful laws learner done node has.values has.prefix in
       value_put (WasPut done) upload by.0 of_text.0 by.2
-      (prefix_from (WasPut done) learner history.config.members (calls_of (heard history.sent done node)) has.values at.0 by.0 told prefix at.1)
+      (prefix_from (WasPut done) learner history.config.members (calls_of (heard_since_restart history.sent done node)) has.values at.0 by.0 told prefix at.1)
 
   pub were_put : ServedWasPut history
   were_put place k version table y uploads found upload is has found_is contains =

@@ -8,11 +8,12 @@ use Rattle.ballots.specs.declared.record.Record.TheVariants.{Began, Promised, Ac
 use Rattle.ballots.specs.declared.message.Message.{Message}
 use Rattle.ballots.specs.declared.message.Body.{Body}
 use Rattle.ballots.specs.declared.message.Body.TheVariants.{Prepare, Promise, Nack, Accept, Accepted, Ask, Decided}
-use Rattle.proposer.specs.Call.{Call as Asked, Begins, Promises, Nacks}
-use Rattle.learner.specs.Calls.{Call as Told, value_in}
+use Rattle.proposer.specs.Call.{ProposerCall as Asked, Begins, Promises, PromisesFrom, GoesOn, Nacks}
+use Rattle.proposer.specs.Reporting.{report_of}
+use Rattle.learner.specs.Calls.{LearnerCall as Told, value_in}
 use Rattle.agreement_rules.specs.Views.{Views, started_with}
 use Rattle.agreement_rules.specs.Due.{Plan}
-use Rattle.histories.specs.Following.{Seat, IsUp, IsDown}
+use Rattle.histories.specs.Following.{UpOrDown, IsUp, IsDown}
 use Rattle.safe_histories.proofs.Lists.{In, in_cases}
 
 -- ---- each element
@@ -70,6 +71,8 @@ module _ (T : List ℕ → Type 0) where
   abbrev pub AskedFrom : Asked → Type 0
   AskedFrom (Begins begun) = ValueFrom begun.candidate
   AskedFrom (Promises promise) = ReportFrom promise.report
+  AskedFrom (PromisesFrom promise) = (slot : ℕ) → ReportFrom (report_of slot promise.reports)
+  AskedFrom (GoesOn candidate) = ValueFrom candidate
   AskedFrom (Nacks slot ballot) = Unit {0}
 
   abbrev pub ToldFrom : Told → Type 0
@@ -85,7 +88,7 @@ module _ (T : List ℕ → Type 0) where
     pub proposer_calls : Each AskedFrom views.proposer_calls
     pub learner_calls : Each ToldFrom views.learner_calls
 
-  abbrev pub SeatFrom : Seat → Type 0
+  abbrev pub SeatFrom : UpOrDown → Type 0
   SeatFrom (IsUp views) = ViewsFrom views
   SeatFrom (IsDown records due) = Each RecordFrom records × DueFrom due
 
@@ -128,6 +131,8 @@ module _ (T U : List ℕ → Type 0) (more : (text : List ℕ) → T text → U 
   asked_more : (call : Asked) → AskedFrom T call → AskedFrom U call
   asked_more (Begins begun) is = value_more begun.candidate is
   asked_more (Promises promise) is = report_more promise.report is
+  asked_more (PromisesFrom promise) is = λ slot. report_more (report_of slot promise.reports) (is slot)
+  asked_more (GoesOn candidate) is = value_more candidate is
   asked_more (Nacks slot ballot) is = tt
 
   told_more : (call : Told) → ToldFrom T call → ToldFrom U call
@@ -145,6 +150,6 @@ module _ (T U : List ℕ → Type 0) (more : (text : List ℕ) → T text → U 
     learner_calls = each_weaker (ToldFrom T) (ToldFrom U) views.learner_calls told_more is.learner_calls;
   }
 
-  pub seat_more : (seat : Seat) → SeatFrom T seat → SeatFrom U seat
+  pub seat_more : (seat : UpOrDown) → SeatFrom T seat → SeatFrom U seat
   seat_more (IsUp views) is = views_more views is
   seat_more (IsDown records due) is = (each_weaker (RecordFrom T) (RecordFrom U) records record_more is.0, due_more due is.1)

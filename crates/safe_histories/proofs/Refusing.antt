@@ -2,7 +2,7 @@
 use Rattle.std.proofs.Common.{◌≡◌, ℕ, ◌≤◌, ◌⊎◌, inl, inr, Bool, List, length, Some, refl, sym, ◌∙◌}
 use Rattle.ballots.specs.declared.message.Message.{Message}
 use Rattle.table_types.specs.Uploads.{Upload}
-use Rattle.agreement_rules.specs.Views.{Config, Views}
+use Rattle.agreement_rules.specs.Views.{AgreementConfig, Views}
 use Rattle.agreement_rules.specs.Due.{Refusal, Refuses, Plans}
 use Rattle.agreement_rules.specs.Due as due
 use Rattle.histories.specs.Due.{Input}
@@ -12,7 +12,7 @@ use Rattle.histories.specs.Event as event
 use Rattle.histories.specs.EventResult.{EventResult, Reason}
 use Rattle.histories.specs.EventResult as results
 use Rattle.histories.specs.Owning.{number_in}
-use Rattle.histories.specs.Following.{Seat, IsUp, reason_of, PutGives, SendsGives, InputGives, CutGives, Delivers, GetGives, InfoGives, GetGivesIfAble, InfoGivesIfAble, OutcomeGives, RestartGives, UpGives}
+use Rattle.histories.specs.Following.{UpOrDown, IsUp, reason_of, PutGives, SendsGives, InputGives, CutGives, Delivers, GetGives, InfoGives, GetGivesIfAble, InfoGivesIfAble, OutcomeGives, RestartGives, UpGives}
 
 reason_same : (a b : Reason) → results.Refused a ≡ results.Refused b → a ≡ b
 reason_same a b same = cc
@@ -35,23 +35,23 @@ module _ (reason : Reason) (apart : (r : Refusal) → reason_of r ≡ reason →
   memory_other : IsOther (results.Refused results.OutOfMemory)
   memory_other refused = refusal_other due.OutOfMemory refused
 
-  pub restart_other : (recovered : Bool) (old : Seat) (given : EventResult) (seat : Seat) → RestartGives recovered old given seat → IsOther given
+  pub restart_other : (recovered : Bool) (old : UpOrDown) (given : EventResult) (seat : UpOrDown) → RestartGives recovered old given seat → IsOther given
   restart_other recovered old given seat (inl (gives, stays)) = other given results.Done gives done_other
   restart_other recovered old given seat (inr (gives, stays)) = other given (results.Refused results.OutOfMemory) gives memory_other
 
-  module _ (config : Config) (sent : List Message) (next : ℕ) (recovered : Bool) (views : Views) where
-    put_other : (node : ℕ) (i : Input) (given : EventResult) (seat : Seat) → InputGives config node views i (PutGives views) given seat → IsOther given
+  module _ (config : AgreementConfig) (sent : List Message) (next : ℕ) (recovered : Bool) (views : Views) where
+    put_other : (node : ℕ) (i : Input) (given : EventResult) (seat : UpOrDown) → InputGives config node views i (PutGives views) given seat → IsOther given
     put_other node i given seat (inl (Refuses r, is, (gives, stays))) = other given (results.Refused (reason_of r)) gives (refusal_other r)
     put_other node i given seat (inl (Plans plan, is, (gives, stays))) = other given results.Done gives done_other
     put_other node i given seat (inr (allowed, (gives, stays))) = other given (results.Refused results.OutOfMemory) gives memory_other
 
-    step_other : (node : ℕ) (i : Input) (given : EventResult) (seat : Seat) → InputGives config node views i (SendsGives sent next views) given seat → IsOther given
+    step_other : (node : ℕ) (i : Input) (given : EventResult) (seat : UpOrDown) → InputGives config node views i (SendsGives sent next views) given seat → IsOther given
     step_other node i given seat (inl (Refuses r, is, (gives, stays))) = other given (results.Refused (reason_of r)) gives (refusal_other r)
     step_other node i given seat (inl (Plans plan, is, (gives, goes, stays))) =
         other given (results.Sent next (length plan.sends)) gives (λ refused. cc refused)
     step_other node i given seat (inr (allowed, (gives, stays))) = other given (results.Refused results.OutOfMemory) gives memory_other
 
-    cut_other : (node : ℕ) (i : Input) (given : EventResult) (seat : Seat) → CutGives config node views i given seat → IsOther given
+    cut_other : (node : ℕ) (i : Input) (given : EventResult) (seat : UpOrDown) → CutGives config node views i given seat → IsOther given
     cut_other node i given seat cut = other given results.Done cut.0 done_other
 
     get_other : (uploads : List Upload) (table : List ℕ) (version : ℕ) (given : EventResult) → GetGives uploads table version given → IsOther given
@@ -77,12 +77,12 @@ module _ (reason : Reason) (apart : (r : Refusal) → reason_of r ≡ reason →
     abbrev pub IsUnsent : Event → EventResult → Type 0
     IsUnsent e given = (number : ℕ) × (number_in e ≡ Some number) × (next ≤ number) × (given ≡ results.Refused results.NotSent)
 
-    delivers_other : (e : Event) (number : ℕ) (Gives : Message → EventResult → Seat → Type 0) (given : EventResult) (seat : Seat) → number_in e ≡ Some number
+    delivers_other : (e : Event) (number : ℕ) (Gives : Message → EventResult → UpOrDown → Type 0) (given : EventResult) (seat : UpOrDown) → number_in e ≡ Some number
         → ((m : Message) → Gives m given seat → IsOther given) → Delivers sent next number Gives views given seat → IsOther given ⊎ IsUnsent e given
     delivers_other e number Gives given seat is others (inl (m, before, there, gives)) = inl (others m gives)
     delivers_other e number Gives given seat is others (inr (past, gives, stays)) = inr (number, is, past, gives)
 
-    pub up_other : (e : Event) (given : EventResult) (seat : Seat) → UpGives config sent next recovered views e given seat → IsOther given ⊎ IsUnsent e given
+    pub up_other : (e : Event) (given : EventResult) (seat : UpOrDown) → UpGives config sent next recovered views e given seat → IsOther given ⊎ IsUnsent e given
     up_other (event.Put node text) given seat gives = inl (put_other node (input.Put text) given seat gives)
     up_other (event.Tick node left) given seat gives = inl (step_other node (input.Tick left) given seat gives)
     up_other (event.Deliver node number) given seat gives =

@@ -9,7 +9,7 @@ use Rattle.histories.specs.Event.{Event, node_of}
 use Rattle.histories.specs.Event as event
 use Rattle.histories.specs.EventResult.{EventResult, is_done}
 use Rattle.histories.specs.History.{Step}
-use Rattle.safe_histories.specs.Learning.{brings_up, brings_down, since_restart, is_taken, delivered_in, heard}
+use Rattle.safe_histories.specs.Learning.{brings_up, brings_down, since_restart, is_taken, delivered_in, heard_since_restart}
 
 -- ---- one step more
 
@@ -39,7 +39,7 @@ pub no_restart : (node : ℕ) (steps : List Step) (step : Step) → brings_up no
 no_restart node steps step is = restart_more node steps step ∙ ap (λ b. if b then [] else since_restart node steps ++ step ∷ []) is
 
 pub heard_more : (sent : List Message) (node : ℕ) (steps : List Step) (step : Step) → brings_up node step ≡ false
-    → heard sent (steps ++ step ∷ []) node ≡ heard sent steps node ++ cons_option (delivered_in sent node step) []
+    → heard_since_restart sent (steps ++ step ∷ []) node ≡ heard_since_restart sent steps node ++ cons_option (delivered_in sent node step) []
 heard_more sent node steps step is =
     ap (filter_map (delivered_in sent node)) (no_restart node steps step is) ∙ filter_map-append (delivered_in sent node) (since_restart node steps) (step ∷ [])
 

@@ -6,7 +6,7 @@ use Rattle.table_types.specs.Answers.{answer_of}
 use Rattle.histories.specs.Event as event
 use Rattle.histories.specs.EventResult as results
 use Rattle.histories.specs.History.{Step, History}
-use Rattle.histories.specs.Following.{Seat, at_first, Follows}
+use Rattle.histories.specs.Following.{UpOrDown, at_first, Follows}
 use Rattle.safe_histories.specs.Safe.{IsStep, SameTicketSameBytes, AcknowledgedStandsOnce, ServesItsPrefix}
 use Rattle.safe_histories.proofs.Lists.{some_same}
 use Rattle.safe_histories.proofs.Texts.{OneEncoding, one_text}
@@ -20,7 +20,7 @@ use Rattle.safe_histories.proofs.Prefixes.{TableLaws, within_one, version_later,
 use Rattle.safe_histories.proofs.Served.{step_answers, IsServing, get_is_served, outcome_is_served, IsServed, get_served, IsTold, outcome_told}
 
 module _ (history : History) (follows : Follows history) where
-  abbrev pub Shown : List Step → (ℕ → Seat) → ℕ → Type 0
+  abbrev pub Shown : List Step → (ℕ → UpOrDown) → ℕ → Type 0
   Shown done seats next = AllAgree history.sent done history.config.members done seats
 
   -- each step, with what was before it

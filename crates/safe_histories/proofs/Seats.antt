@@ -11,20 +11,20 @@ use Rattle.histories.specs.Event as event
 use Rattle.histories.specs.EventResult.{EventResult, Reason}
 use Rattle.histories.specs.EventResult as results
 use Rattle.histories.specs.History.{Step}
-use Rattle.agreement_rules.specs.Views.{Config, Views, started_with}
+use Rattle.agreement_rules.specs.Views.{AgreementConfig, Views, started_with}
 use Rattle.agreement_rules.specs.Due.{Refuses, Plans}
 use Rattle.histories.specs.Due as input
-use Rattle.histories.specs.Following.{Seat, IsUp, IsDown, down, recovered_in, reason_of, PutGives, SendsGives, InputGives, CutGives, Delivers, QuestionGives, RestartGives, UpGives, RefusesAsDown, DownGives, SeatGives, StepFollows, at_first, GetGivesIfAble, InfoGivesIfAble, OutcomeGives}
+use Rattle.histories.specs.Following.{UpOrDown, IsUp, IsDown, down, recovered_in, reason_of, PutGives, SendsGives, InputGives, CutGives, Delivers, QueryGives, RestartGives, UpGives, RefusesAsDown, DownGives, NodeGives, StepFollows, at_first, GetGivesIfAble, InfoGivesIfAble, OutcomeGives}
 use Rattle.safe_histories.specs.Learning.{is_taken, brings_up, brings_down, delivered_in}
 use Rattle.safe_histories.proofs.Restarts.{nothing_either_way, step_of, elsewhere}
 use Rattle.safe_histories.proofs.Running.{put_tells, tick_tells, message_tells, Agrees, restarted, goes_on, goes_down, stays_down, others_agree}
 
 module _ (sent : List Message) (done : List Step) where
   -- as the seat of the event's node is behind it
-  abbrev After : Event → EventResult → Seat → Type 0
+  abbrev After : Event → EventResult → UpOrDown → Type 0
   After e given seat = Agrees sent (done ++ step_of e given ∷ []) (node_of e) seat
 
-  with_it : (e : Event) (given was : EventResult) (seat other : Seat) → given ≡ was → seat ≡ other → After e was other → After e given seat
+  with_it : (e : Event) (given was : EventResult) (seat other : UpOrDown) → given ≡ was → seat ≡ other → After e was other → After e given seat
   with_it e given was seat other same also after = subst (λ (g : EventResult). After e g seat) (sym same) (subst (After e was) (sym also) after)
 
   -- nothing is delivered, and its learner is told nothing
@@ -52,8 +52,8 @@ module _ (sent : List Message) (done : List Step) where
 
   -- ---- a node that is up
 
-  module _ (config : Config) (next : ℕ) (recovered : Bool) (views : Views) where
-    put_agrees : (node : ℕ) (text : List ℕ) (given : EventResult) (seat : Seat) → Agrees sent done node (IsUp views)
+  module _ (config : AgreementConfig) (next : ℕ) (recovered : Bool) (views : Views) where
+    put_agrees : (node : ℕ) (text : List ℕ) (given : EventResult) (seat : UpOrDown) → Agrees sent done node (IsUp views)
         → InputGives config node views (input.Put text) (PutGives views) given seat → After (event.Put node text) given seat
     put_agrees node text given seat agrees (inl (Refuses refusal, is, (gives, stays))) =
         with_it (event.Put node text) given (results.Refused (reason_of refusal)) seat (IsUp views) gives stays
@@ -65,7 +65,7 @@ module _ (sent : List Message) (done : List Step) where
         with_it (event.Put node text) given (results.Refused results.OutOfMemory) seat (IsUp views) gives stays
         (refused (event.Put node text) results.OutOfMemory views refl refl agrees)
 
-    tick_agrees : (node left : ℕ) (given : EventResult) (seat : Seat) → Agrees sent done node (IsUp views)
+    tick_agrees : (node left : ℕ) (given : EventResult) (seat : UpOrDown) → Agrees sent done node (IsUp views)
         → InputGives config node views (input.Tick left) (SendsGives sent next views) given seat → After (event.Tick node left) given seat
     tick_agrees node left given seat agrees (inl (Refuses refusal, is, (gives, stays))) =
         with_it (event.Tick node left) given (results.Refused (reason_of refusal)) seat (IsUp views) gives stays
@@ -83,7 +83,7 @@ module _ (sent : List Message) (done : List Step) where
     handed_here node number first count m is =
         ap (λ b. option_and_then (λ n. slice_get sent n) (if b then Some number else None)) (it_is node) ∙ is
 
-    delivery_agrees : (node number : ℕ) (m : Message) (given : EventResult) (seat : Seat) → slice_get sent number ≡ Some m → Agrees sent done node (IsUp views)
+    delivery_agrees : (node number : ℕ) (m : Message) (given : EventResult) (seat : UpOrDown) → slice_get sent number ≡ Some m → Agrees sent done node (IsUp views)
         → InputGives config node views (input.Deliver m) (SendsGives sent next views) given seat → After (event.Deliver node number) given seat
     delivery_agrees node number m given seat there agrees (inl (Refuses refusal, is, (gives, stays))) =
         with_it (event.Deliver node number) given (results.Refused (reason_of refusal)) seat (IsUp views) gives stays
@@ -97,7 +97,7 @@ module _ (sent : List Message) (done : List Step) where
         with_it (event.Deliver node number) given (results.Refused results.OutOfMemory) seat (IsUp views) gives stays
         (refused (event.Deliver node number) results.OutOfMemory views refl refl agrees)
 
-    deliver_agrees : (node number : ℕ) (given : EventResult) (seat : Seat) → Agrees sent done node (IsUp views)
+    deliver_agrees : (node number : ℕ) (given : EventResult) (seat : UpOrDown) → Agrees sent done node (IsUp views)
         → Delivers sent next number (λ m. InputGives config node views (input.Deliver m) (SendsGives sent next views)) views given seat
         → After (event.Deliver node number) given seat
     deliver_agrees node number given seat agrees (inl (m, before, there, gives)) = delivery_agrees node number m given seat there agrees gives
@@ -112,18 +112,18 @@ module _ (sent : List Message) (done : List Step) where
     no_cut_is true = refl
     no_cut_is false = refl
 
-    tick_cut_agrees : (node left : ℕ) (given : EventResult) (seat : Seat) → CutGives config node views (input.Tick left) given seat → After (event.TickCut node left) given seat
+    tick_cut_agrees : (node left : ℕ) (given : EventResult) (seat : UpOrDown) → CutGives config node views (input.Tick left) given seat → After (event.TickCut node left) given seat
     tick_cut_agrees node left given seat (gives, (kept, keeps, stays)) =
         with_it (event.TickCut node left) given results.Done seat (IsDown views.records kept) gives stays
         (cut_down node (event.TickCut node left) views.records kept refl refl (cut_is node))
 
-    delivery_cut_agrees : (node number : ℕ) (m : Message) (given : EventResult) (seat : Seat) → CutGives config node views (input.Deliver m) given seat
+    delivery_cut_agrees : (node number : ℕ) (m : Message) (given : EventResult) (seat : UpOrDown) → CutGives config node views (input.Deliver m) given seat
         → After (event.DeliverCut node number) given seat
     delivery_cut_agrees node number m given seat (gives, (kept, keeps, stays)) =
         with_it (event.DeliverCut node number) given results.Done seat (IsDown views.records kept) gives stays
         (cut_down node (event.DeliverCut node number) views.records kept refl refl (cut_is node))
 
-    deliver_cut_agrees : (node number : ℕ) (given : EventResult) (seat : Seat) → Agrees sent done node (IsUp views)
+    deliver_cut_agrees : (node number : ℕ) (given : EventResult) (seat : UpOrDown) → Agrees sent done node (IsUp views)
         → Delivers sent next number (λ m. CutGives config node views (input.Deliver m)) views given seat → After (event.DeliverCut node number) given seat
     deliver_cut_agrees node number given seat agrees (inl (m, before, there, cut)) = delivery_cut_agrees node number m given seat cut
     deliver_cut_agrees node number given seat agrees (inr (past, gives, stays)) =
@@ -131,9 +131,9 @@ module _ (sent : List Message) (done : List Step) where
         (refused (event.DeliverCut node number) results.NotSent views refl (no_cut_is (node == node)) agrees)
 
     -- a question changes nothing
-    asked_agrees : (e : Event) (given : EventResult) (seat : Seat) (Gives : List Upload → EventResult → Type 0) → brings_up (node_of e) (step_of e given) ≡ false
+    asked_agrees : (e : Event) (given : EventResult) (seat : UpOrDown) (Gives : List Upload → EventResult → Type 0) → brings_up (node_of e) (step_of e given) ≡ false
         → brings_down (node_of e) (step_of e given) ≡ false → delivered_in sent (node_of e) (step_of e given) ≡ None → Agrees sent done (node_of e) (IsUp views)
-        → QuestionGives config views Gives given seat → After e given seat
+        → QueryGives config views Gives given seat → After e given seat
     asked_agrees e given seat Gives no_up no_down nothing agrees (uploads, has, gives, stays) =
         subst (After e given) (sym stays) (quietly e given views views no_up no_down nothing refl agrees)
 
@@ -149,11 +149,11 @@ module _ (sent : List Message) (done : List Step) where
   failed_is : (node : ℕ) → (false && false || (node == node) && true) ≡ true
   failed_is node = ap (λ b. false && false || b && true) (it_is node)
 
-  down_of : (old seat : Seat) → seat ≡ down old → (records : List Record) × (due : Option Record) × (seat ≡ IsDown records due)
+  down_of : (old seat : UpOrDown) → seat ≡ down old → (records : List Record) × (due : Option Record) × (seat ≡ IsDown records due)
   down_of (IsUp views) seat is = (views.records, None, is)
   down_of (IsDown records due) seat is = (records, due, is)
 
-  pub restart_agrees : (recovered : Bool) (node : ℕ) (old : Seat) (given : EventResult) (seat : Seat) → RestartGives recovered old given seat → After (event.Restart node) given seat
+  pub restart_agrees : (recovered : Bool) (node : ℕ) (old : UpOrDown) (given : EventResult) (seat : UpOrDown) → RestartGives recovered old given seat → After (event.Restart node) given seat
   restart_agrees recovered node old given seat (inl (gives, stays)) =
       with_it (event.Restart node) given results.Done seat (IsUp (started_with (recovered_in recovered old))) gives stays
       (restarted sent done node (step_of (event.Restart node) results.Done) (recovered_in recovered old) (up_is node))
@@ -165,7 +165,7 @@ module _ (sent : List Message) (done : List Step) where
 
   -- ---- all events
 
-  up_agrees : (config : Config) (next : ℕ) (recovered : Bool) (views : Views) (e : Event) (given : EventResult) (seat : Seat) → Agrees sent done (node_of e) (IsUp views)
+  up_agrees : (config : AgreementConfig) (next : ℕ) (recovered : Bool) (views : Views) (e : Event) (given : EventResult) (seat : UpOrDown) → Agrees sent done (node_of e) (IsUp views)
       → UpGives config sent next recovered views e given seat → After e given seat
   up_agrees config next recovered views (event.Put node text) given seat agrees gives = put_agrees config next recovered views node text given seat agrees gives
   up_agrees config next recovered views (event.Tick node left) given seat agrees gives = tick_agrees config next recovered views node left given seat agrees gives
@@ -183,12 +183,12 @@ module _ (sent : List Message) (done : List Step) where
       asked_agrees config next recovered views (event.Outcome node text) given seat (λ uploads. OutcomeGives uploads text) refl refl
       (nothing_either_way (is_taken given)) agrees gives
 
-  refused_down : (e : Event) (given : EventResult) (seat : Seat) (records : List Record) (due : Option Record) → brings_up (node_of e) (step_of e given) ≡ false
+  refused_down : (e : Event) (given : EventResult) (seat : UpOrDown) (records : List Record) (due : Option Record) → brings_up (node_of e) (step_of e given) ≡ false
       → Agrees sent done (node_of e) (IsDown records due) → RefusesAsDown (IsDown records due) given seat → After e given seat
   refused_down e given seat records due no_up agrees (gives, stays) =
       subst (After e given) (sym stays) (stays_down sent done (node_of e) (step_of e given) records due no_up agrees)
 
-  down_agrees : (recovered : Bool) (records : List Record) (due : Option Record) (e : Event) (given : EventResult) (seat : Seat) → Agrees sent done (node_of e) (IsDown records due)
+  down_agrees : (recovered : Bool) (records : List Record) (due : Option Record) (e : Event) (given : EventResult) (seat : UpOrDown) → Agrees sent done (node_of e) (IsDown records due)
       → DownGives recovered (IsDown records due) e given seat → After e given seat
   down_agrees recovered records due (event.Put node text) given seat agrees gives = refused_down (event.Put node text) given seat records due refl agrees gives
   down_agrees recovered records due (event.Tick node left) given seat agrees gives = refused_down (event.Tick node left) given seat records due refl agrees gives
@@ -202,17 +202,17 @@ module _ (sent : List Message) (done : List Step) where
   down_agrees recovered records due (event.Info node table) given seat agrees gives = refused_down (event.Info node table) given seat records due refl agrees gives
   down_agrees recovered records due (event.Outcome node text) given seat agrees gives = refused_down (event.Outcome node text) given seat records due refl agrees gives
 
-  seat_agrees : (config : Config) (next : ℕ) (recovered : Bool) (old : Seat) (e : Event) (given : EventResult) (seat : Seat) → Agrees sent done (node_of e) old
-      → SeatGives config sent next recovered old e given seat → After e given seat
+  seat_agrees : (config : AgreementConfig) (next : ℕ) (recovered : Bool) (old : UpOrDown) (e : Event) (given : EventResult) (seat : UpOrDown) → Agrees sent done (node_of e) old
+      → NodeGives config sent next recovered old e given seat → After e given seat
   seat_agrees config next recovered (IsUp views) e given seat agrees gives = up_agrees config next recovered views e given seat agrees gives
   seat_agrees config next recovered (IsDown records due) e given seat agrees gives = down_agrees recovered records due e given seat agrees gives
 
   -- ---- all nodes
 
-  abbrev pub AllAgree : ℕ → List Step → (ℕ → Seat) → Type 0
+  abbrev pub AllAgree : ℕ → List Step → (ℕ → UpOrDown) → Type 0
   AllAgree members steps seats = (node : ℕ) → node < members → Agrees sent steps node (seats node)
 
-  pub step_agrees : (config : Config) (next : ℕ) (recovered : Bool) (old new : ℕ → Seat) (step : Step) → AllAgree config.members done old
+  pub step_agrees : (config : AgreementConfig) (next : ℕ) (recovered : Bool) (old new : ℕ → UpOrDown) (step : Step) → AllAgree config.members done old
       → StepFollows config sent next old step recovered new → AllAgree config.members (done ++ step ∷ []) new
   step_agrees config next recovered old new step all (inl (member, gives, others)) = λ node within.
       elim (cases_eq node (node_of step.event)) as (λ _. Agrees sent (done ++ step ∷ []) node (new node)) [

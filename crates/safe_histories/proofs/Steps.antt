@@ -4,15 +4,15 @@ use Rattle.std.proofs.lemmas.List.{append-nil, append_assoc}
 use Rattle.ballots.specs.declared.message.Message.{Message}
 use Rattle.histories.specs.EventResult.{count_of}
 use Rattle.histories.specs.History.{Step}
-use Rattle.agreement_rules.specs.Views.{Config}
-use Rattle.histories.specs.Following.{Seat, StepFollows, StepsReach}
+use Rattle.agreement_rules.specs.Views.{AgreementConfig}
+use Rattle.histories.specs.Following.{UpOrDown, StepFollows, StepsReach}
 use Rattle.safe_histories.proofs.Lists.{some_same, none_is_some}
 
-module _ (config : Config) (sent : List Message) (P : List Step → (ℕ → Seat) → ℕ → Type 0) where
+module _ (config : AgreementConfig) (sent : List Message) (P : List Step → (ℕ → UpOrDown) → ℕ → Type 0) where
   -- the step, with what was before it
   pub record Reached (done : List Step) (step : Step) : Type 0 where
-    pub seats : ℕ → Seat
-    pub after : ℕ → Seat
+    pub seats : ℕ → UpOrDown
+    pub after : ℕ → UpOrDown
     pub next : ℕ
     pub recovered : Bool
     pub holds : P done seats next
@@ -20,11 +20,11 @@ module _ (config : Config) (sent : List Message) (P : List Step → (ℕ → Sea
 
   -- what holds stays with each step that follows
   abbrev pub Stays : Type 0
-  Stays = (done : List Step) (seats after : ℕ → Seat) (next : ℕ) (step : Step) (recovered : Bool) → P done seats next
+  Stays = (done : List Step) (seats after : ℕ → UpOrDown) (next : ℕ) (step : Step) (recovered : Bool) → P done seats next
       → StepFollows config sent next seats step recovered after → P (done ++ step ∷ []) after (next + count_of step.result)
 
-  module _ (stays : Stays) (last : ℕ → Seat) where
-    pub reach : (done : List Step) (seats : ℕ → Seat) (next : ℕ) (rest : List Step) (recovered : List Bool) → P done seats next
+  module _ (stays : Stays) (last : ℕ → UpOrDown) where
+    pub reach : (done : List Step) (seats : ℕ → UpOrDown) (next : ℕ) (rest : List Step) (recovered : List Bool) → P done seats next
         → StepsReach config sent seats next rest recovered last → (place : ℕ) (step : Step) → slice_get rest place ≡ Some step
         → Reached (done ++ take place rest) step
     reach done seats next [] recovered holds reaches place step is = absurd (none_is_some step is)
@@ -43,11 +43,11 @@ module _ (config : Config) (sent : List Message) (P : List Step → (ℕ → Sea
         (reach (done ++ x ∷ []) after (next + count_of x.result) rest more (stays done seats after next x r holds one) others place step is)
 
     -- behind all steps
-    pub reach_all : (done : List Step) (seats : ℕ → Seat) (next : ℕ) (rest : List Step) (recovered : List Bool) → P done seats next
+    pub reach_all : (done : List Step) (seats : ℕ → UpOrDown) (next : ℕ) (rest : List Step) (recovered : List Bool) → P done seats next
         → StepsReach config sent seats next rest recovered last → P (done ++ rest) last (length sent)
     reach_all done seats next [] recovered holds (none, end, same) =
         subst (λ l. P l last (length sent)) (sym (append-nil done))
-        (subst (λ (s : ℕ → Seat). P done s (length sent)) (sym same) (subst (λ (n : ℕ). P done seats n) end holds))
+        (subst (λ (s : ℕ → UpOrDown). P done s (length sent)) (sym same) (subst (λ (n : ℕ). P done seats n) end holds))
     reach_all done seats next (x ∷ rest) [] holds reaches = absurd reaches
     reach_all done seats next (x ∷ rest) (r ∷ more) holds (after, one, asked, others) =
         subst (λ l. P l last (length sent)) (append_assoc done (x ∷ []) rest)

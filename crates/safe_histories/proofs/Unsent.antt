@@ -3,7 +3,7 @@
 use Rattle.std.proofs.Common.{◌≡◌, ℕ, ◌+◌, ◌<◌, ◌≤◌, inl, inr, Bool, true≢false, List, [], ◌∷◌, ◌++◌, take, Some, slice_get, refl, sym, subst, ◌∙◌, arith}
 use Rattle.std.proofs.lemmas.List.Sums.{sum_by_push}
 use Rattle.ballots.specs.declared.message.Message.{Message}
-use Rattle.agreement_rules.specs.Views.{Config, Views}
+use Rattle.agreement_rules.specs.Views.{AgreementConfig, Views}
 use Rattle.agreement_rules.specs.Due.{Refusal}
 use Rattle.agreement_rules.specs.Due as due
 use Rattle.histories.specs.Due as input
@@ -13,7 +13,7 @@ use Rattle.histories.specs.EventResult.{EventResult, count_of}
 use Rattle.histories.specs.EventResult as results
 use Rattle.histories.specs.History.{Step, History}
 use Rattle.histories.specs.Owning.{number_in}
-use Rattle.histories.specs.Following.{Seat, IsUp, IsDown, reason_of, SendsGives, InputGives, CutGives, Delivers, UpGives, DownGives, SeatGives, StepFollows, at_first, Follows}
+use Rattle.histories.specs.Following.{UpOrDown, IsUp, IsDown, reason_of, SendsGives, InputGives, CutGives, Delivers, UpGives, DownGives, NodeGives, StepFollows, at_first, Follows}
 use Rattle.safe_histories.specs.Learning.{Runs, sent_before}
 use Rattle.safe_histories.proofs.Lists.{some_same, none_is_some}
 use Rattle.safe_histories.proofs.Running.{Agrees}
@@ -35,7 +35,7 @@ IsOther given = given ≡ results.Refused results.NotSent → ⊥
 down_other : (given : EventResult) → given ≡ results.Refused results.Down → IsOther given
 down_other given down unsent = cc (sym down ∙ unsent)
 
-down_gives_other : (recovered : Bool) (old : Seat) (e : Event) (given : EventResult) (seat : Seat) → DownGives recovered old e given seat → IsOther given
+down_gives_other : (recovered : Bool) (old : UpOrDown) (e : Event) (given : EventResult) (seat : UpOrDown) → DownGives recovered old e given seat → IsOther given
 down_gives_other recovered old (event.Put node text) given seat gives = down_other given gives.0
 down_gives_other recovered old (event.Tick node left) given seat gives = down_other given gives.0
 down_gives_other recovered old (event.Deliver node number) given seat gives = down_other given gives.0
@@ -48,13 +48,13 @@ down_gives_other recovered old (event.Outcome node text) given seat gives = down
 
 -- ---- one step, before which so many were sent
 
-module _ (config : Config) (sent : List Message) (next : ℕ) where
-  delivery_unsent : (handed number : ℕ) (Gives : Message → EventResult → Seat → Type 0) (views : Views) (given : EventResult) (seat : Seat) → handed ≡ number
+module _ (config : AgreementConfig) (sent : List Message) (next : ℕ) where
+  delivery_unsent : (handed number : ℕ) (Gives : Message → EventResult → UpOrDown → Type 0) (views : Views) (given : EventResult) (seat : UpOrDown) → handed ≡ number
       → next ≤ number → Delivers sent next handed Gives views given seat → given ≡ results.Refused results.NotSent
   delivery_unsent handed number Gives views given seat same le (inl (m, before, there, gives)) = absurd (omega (arith, same, le, before))
   delivery_unsent handed number Gives views given seat same le (inr (past, gives, stays)) = gives
 
-  up_unsent : (recovered : Bool) (views : Views) (e : Event) (given : EventResult) (seat : Seat) (number : ℕ) → number_in e ≡ Some number → next ≤ number
+  up_unsent : (recovered : Bool) (views : Views) (e : Event) (given : EventResult) (seat : UpOrDown) (number : ℕ) → number_in e ≡ Some number → next ≤ number
       → UpGives config sent next recovered views e given seat → given ≡ results.Refused results.NotSent
   up_unsent recovered views (event.Put node text) given seat number is le gives = absurd (none_is_some number is)
   up_unsent recovered views (event.Tick node left) given seat number is le gives = absurd (none_is_some number is)
@@ -73,8 +73,8 @@ module _ (config : Config) (sent : List Message) (next : ℕ) where
     abbrev IsUnsentAt : ℕ → Event → Type 0
     IsUnsentAt node e = (number : ℕ) × (number_in e ≡ Some number) × Runs node done × (next ≤ number)
 
-    seat_unsent : (recovered : Bool) (old : Seat) (e : Event) (given : EventResult) (seat : Seat) → Agrees sent done (node_of e) old
-        → SeatGives config sent next recovered old e given seat → given ≡ results.Refused results.NotSent → IsUnsentAt (node_of e) e
+    seat_unsent : (recovered : Bool) (old : UpOrDown) (e : Event) (given : EventResult) (seat : UpOrDown) → Agrees sent done (node_of e) old
+        → NodeGives config sent next recovered old e given seat → given ≡ results.Refused results.NotSent → IsUnsentAt (node_of e) e
     seat_unsent recovered (IsUp views) e given seat agrees gives unsent =
         elim (up_other results.NotSent unsent_apart config sent next recovered views e given seat gives) as (λ _. IsUnsentAt (node_of e) e) [
           | inl is ↦ absurd (is unsent)
@@ -83,19 +83,19 @@ module _ (config : Config) (sent : List Message) (next : ℕ) where
     seat_unsent recovered (IsDown records due) e given seat agrees gives unsent =
         absurd (down_gives_other recovered (IsDown records due) e given seat gives unsent)
 
-    unsent_seat : (recovered : Bool) (old : Seat) (e : Event) (given : EventResult) (seat : Seat) → Agrees sent done (node_of e) old
-        → IsUnsentAt (node_of e) e → SeatGives config sent next recovered old e given seat → given ≡ results.Refused results.NotSent
+    unsent_seat : (recovered : Bool) (old : UpOrDown) (e : Event) (given : EventResult) (seat : UpOrDown) → Agrees sent done (node_of e) old
+        → IsUnsentAt (node_of e) e → NodeGives config sent next recovered old e given seat → given ≡ results.Refused results.NotSent
     unsent_seat recovered (IsUp views) e given seat agrees (number, is, runs, le) gives = up_unsent recovered views e given seat number is le gives
     unsent_seat recovered (IsDown records due) e given seat agrees (number, is, runs, le) gives = absurd (true≢false (sym agrees ∙ runs))
 
-    step_unsent : (recovered : Bool) (old new : ℕ → Seat) (step : Step) → AllAgree sent done config.members done old
+    step_unsent : (recovered : Bool) (old new : ℕ → UpOrDown) (step : Step) → AllAgree sent done config.members done old
         → StepFollows config sent next old step recovered new → step.result ≡ results.Refused results.NotSent
         → (node_of step.event < config.members) × IsUnsentAt (node_of step.event) step.event
     step_unsent recovered old new step all (inl (member, gives, others)) unsent =
         (member, seat_unsent recovered (old (node_of step.event)) step.event step.result (new (node_of step.event)) (all (node_of step.event) member) gives unsent)
     step_unsent recovered old new step all (inr (past, gives, same)) unsent = absurd (cc (sym gives ∙ unsent))
 
-    unsent_step : (recovered : Bool) (old new : ℕ → Seat) (step : Step) → AllAgree sent done config.members done old
+    unsent_step : (recovered : Bool) (old new : ℕ → UpOrDown) (step : Step) → AllAgree sent done config.members done old
         → StepFollows config sent next old step recovered new → node_of step.event < config.members → IsUnsentAt (node_of step.event) step.event
         → step.result ≡ results.Refused results.NotSent
     unsent_step recovered old new step all (inl (member, gives, others)) within is =
@@ -108,7 +108,7 @@ sent_more : (done : List Step) (step : Step) (next : ℕ) → next ≡ sent_befo
 sent_more done step next is = omega (arith, is, sum_by_push (λ (s : Step). count_of s.result) done step)
 
 module _ (history : History) (follows : Follows history) (place : ℕ) (step : Step) (is : slice_get history.steps place ≡ Some step) where
-  abbrev Stands : List Step → (ℕ → Seat) → ℕ → Type 0
+  abbrev Stands : List Step → (ℕ → UpOrDown) → ℕ → Type 0
   Stands done seats next = AllAgree history.sent done history.config.members done seats × (next ≡ sent_before done)
 
   at : Reached history.config history.sent Stands (take place history.steps) step

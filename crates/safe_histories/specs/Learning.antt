@@ -99,14 +99,14 @@ delivered_in sent node step =
     if is_taken step.result then option_and_then (λ number. slice_get sent number) (handed_to node step.event) else None
 
 -- all that was delivered to it since its last restart
-abbrev pub heard : List Message → List Step → ℕ → List Message
-heard sent steps node = filter_map (delivered_in sent node) (since_restart node steps)
+abbrev pub heard_since_restart : List Message → List Step → ℕ → List Message
+heard_since_restart sent steps node = filter_map (delivered_in sent node) (since_restart node steps)
 
 -- It has learned the value for the slot: that it was decided, or that a majority accepted it at one ballot.
 abbrev pub HasLearned : ℕ → List Message → List Step → ℕ → ℕ → Value → Type 0
 HasLearned members sent steps node slot value =
-    ((sender : ℕ) × Contains (heard sent steps node) (decided sender slot value))
-    ⊎ ((ballot : Ballot) × MajorityOf members (λ a. Contains (heard sent steps node) (accepted a slot ballot value)))
+    ((sender : ℕ) × Contains (heard_since_restart sent steps node) (decided sender slot value))
+    ⊎ ((ballot : Ballot) × MajorityOf members (λ a. Contains (heard_since_restart sent steps node) (accepted a slot ballot value)))
 
 -- ---- its prefix
 

@@ -9,14 +9,14 @@ ghost use Rattle.table_types.specs.Uploads.{Upload, upload_text};
 ghost use Rattle.table_types.specs.Valid.{IsUpload};
 ghost use Rattle.table_types.specs.Tables.{Version, version_of, effective, shape_text, applied, outcome_of};
 ghost use Rattle.table_types.specs.Answers.{answer_of};
-ghost use Rattle.agreement_rules.specs.Views.{Config, Views, HasPrefix};
+ghost use Rattle.agreement_rules.specs.Views.{AgreementConfig, Views, HasPrefix};
 ghost use Rattle.histories.specs.Texts.{IsTextOf, AreUploadsOf};
 ghost use Rattle.histories.specs.Due.{Waits, IsKnown};
 ghost use Rattle.histories.specs.History.{Step, History};
 ghost use Rattle.histories.specs.Event.{node_of, Put, Get, Info as AsksInfo, Outcome as AsksOutcome};
 ghost use Rattle.histories.specs.EventResult.{EventResult, Done, Answer, Unavailable, Info, NoTable, Outcome, Refused, Down, NotSent, OutOfMemory, OutOfRange};
 ghost use Rattle.histories.specs.Owning.{number_in};
-ghost use Rattle.histories.specs.Following.{Seat, IsUp, GetGives, InfoGives, OutcomeGives, Reaches, Follows};
+ghost use Rattle.histories.specs.Following.{UpOrDown, IsUp, GetGives, InfoGives, OutcomeGives, Reaches, Follows};
 ghost use Rattle.safe_histories.specs.Learning.{is_restart_of, brings_up, brings_down, Runs, sent_before, HasLearnedPrefix, HasTables};
 ghost use Rattle.safe_histories.specs.Safe.{IsStep, IsSafe};
 
@@ -67,7 +67,7 @@ pub fn running_is_shown()
 
 /// A member is up, where a history leaves it, exactly where the history shows that it runs.
 pub fn up_is_shown()
-    ensures { (config : Config) (sent : List Message) (steps : List Step) (recovered : List Bool) (seats : ℕ → Seat)
+    ensures { (config : AgreementConfig) (sent : List Message) (steps : List Step) (recovered : List Bool) (seats : ℕ → UpOrDown)
         (node : ℕ) → node < config.members → Reaches config sent steps recovered seats
         → ((views : Views) × (seats node ≡ IsUp views)) ↔ Runs node steps }
 {}
@@ -75,7 +75,7 @@ pub fn up_is_shown()
 /// The prefix of a member that is up is the one that the history shows: what its learner has learned of its calls is what
 /// the messages say that were delivered to it since its last restart.
 pub fn prefix_is_shown()
-    ensures { (config : Config) (sent : List Message) (steps : List Step) (recovered : List Bool) (seats : ℕ → Seat)
+    ensures { (config : AgreementConfig) (sent : List Message) (steps : List Step) (recovered : List Bool) (seats : ℕ → UpOrDown)
         (node : ℕ) (views : Views) (values : List Value) → node < config.members
         → Reaches config sent steps recovered seats → seats node ≡ IsUp views
         → HasPrefix config.members views.learner_calls values
@@ -99,7 +99,7 @@ pub fn not_sent_is_exact()
 
 /// A put that a node took is not forgotten: the upload waits there, or what has become of it is known there.
 pub fn puts_are_remembered()
-    ensures { (config : Config) (sent : List Message) (steps : List Step) (recovered : List Bool) (seats : ℕ → Seat)
+    ensures { (config : AgreementConfig) (sent : List Message) (steps : List Step) (recovered : List Bool) (seats : ℕ → UpOrDown)
         (node : ℕ) (text : List ℕ)
         → Reaches config sent (steps ++ (record { event = Put node text; result = Done }) ∷ []) recovered seats
         → (views : Views) × (seats node ≡ IsUp views)

@@ -4,12 +4,12 @@ use Rattle.std.proofs.lemmas.Bool.{eq-eqb, ne_eqb, cases_eq, cases_lt}
 use Rattle.std.proofs.lemmas.List.{append-nil, length-append, length-set}
 use Rattle.std.proofs.lemmas.Option.{slice_get_within, slice_get_past, slice_get-get_or}
 use Rattle.ballots.specs.declared.message.Message.{Message}
-use Rattle.agreement_rules.specs.Views.{Config}
+use Rattle.agreement_rules.specs.Views.{AgreementConfig}
 use Rattle.histories.specs.History.{Step}
 use Rattle.histories.specs.Event.{node_of}
 use Rattle.histories.specs.Event as events
 use Rattle.histories.specs.EventResult as results
-use Rattle.histories.specs.Following.{Seat, SeatGives, IsAsked, StepFollows, at_first, with_seat}
+use Rattle.histories.specs.Following.{UpOrDown, NodeGives, IsAsked, StepFollows, at_first, with_seat}
 use Rattle.node_events.specs.declared.event.Event.{Event}
 use Rattle.node_events.specs.declared.event_result.EventResult.{EventResult}
 use Rattle.node_events.specs.Told.{event_of, result_of}
@@ -31,14 +31,14 @@ asked_false (events.Outcome node text) = refl
 
 -- what a member gives is a step of all nodes
 abbrev pub StepsAlone : Type 0
-StepsAlone = (config : Config) (sent : List Message) (next : ℕ) (seats : ℕ → Seat) (step : Step) (recovered : Bool) (seat : Seat) → node_of step.event < config.members
-    → SeatGives config sent next recovered (seats (node_of step.event)) step.event step.result seat
+StepsAlone = (config : AgreementConfig) (sent : List Message) (next : ℕ) (seats : ℕ → UpOrDown) (step : Step) (recovered : Bool) (seat : UpOrDown) → node_of step.event < config.members
+    → NodeGives config sent next recovered (seats (node_of step.event)) step.event step.result seat
     → StepFollows config sent next seats step recovered (with_seat seats (node_of step.event) seat)
 
-own_seat : (seats : ℕ → Seat) (node : ℕ) (seat : Seat) → with_seat seats node seat node ≡ seat
+own_seat : (seats : ℕ → UpOrDown) (node : ℕ) (seat : UpOrDown) → with_seat seats node seat node ≡ seat
 own_seat seats node seat = ap (λ (b : Bool). if b then seat else seats node) (eq-eqb node node refl)
 
-other_seat : (seats : ℕ → Seat) (node other : ℕ) (seat : Seat) → other ≢ node → with_seat seats node seat other ≡ seats other
+other_seat : (seats : ℕ → UpOrDown) (node other : ℕ) (seat : UpOrDown) → other ≢ node → with_seat seats node seat other ≡ seats other
 other_seat seats node other seat differs = ap (λ (b : Bool). if b then seat else seats other) (ne_eqb other node differs)
 
 some_same : {X : Type 0} (x y : X) → Some x ≡ Some y → x ≡ y
@@ -53,8 +53,8 @@ pub record IsChangedAt (old new : List MemorySeat) (place : ℕ) (state : Memory
   pub there : slice_get new place ≡ Some state
   pub others : (other : ℕ) → other ≢ place → slice_get new other ≡ slice_get old other
 
-module _ (config : Config) (seats : ℕ → Seat) (states after : List MemorySeat) (place : ℕ) (old new : MemorySeat) (are : AreSeated states config seats)
-    (was : slice_get states place ≡ Some old) (changed : IsChangedAt states after place new) (left : Seat) (placed : IsPlaced new) (me : new.me ≡ old.me)
+module _ (config : AgreementConfig) (seats : ℕ → UpOrDown) (states after : List MemorySeat) (place : ℕ) (old new : MemorySeat) (are : AreSeated states config seats)
+    (was : slice_get states place ≡ Some old) (changed : IsChangedAt states after place new) (left : UpOrDown) (placed : IsPlaced new) (me : new.me ≡ old.me)
     (same : new.config ≡ old.config) (stands : Stands new left) where
   abbrev first : IsSeatOf config place old (seats place)
   first = are.each place old was
@@ -65,10 +65,10 @@ module _ (config : Config) (seats : ℕ → Seat) (states after : List MemorySea
         subst (λ (n : ℕ). IsSeatOf config n state (with_seat seats place left n)) (sym is)
         (subst (λ (s : MemorySeat). IsSeatOf config place s (with_seat seats place left place))
         (some_same new state (sym changed.there ∙ subst (λ (n : ℕ). slice_get after n ≡ Some state) is there))
-        (subst (λ (s : Seat). IsSeatOf config place new s) (sym (own_seat seats place left))
+        (subst (λ (s : UpOrDown). IsSeatOf config place new s) (sym (own_seat seats place left))
         (record { placed = placed; me = me ∙ first.me; config_is = same ∙ first.config_is; stands = stands })))
     | inr differs ↦
-        subst (λ (s : Seat). IsSeatOf config number state s) (sym (other_seat seats place number left differs))
+        subst (λ (s : UpOrDown). IsSeatOf config number state s) (sym (other_seat seats place number left differs))
         (are.each number state (sym (changed.others number differs) ∙ there))
   ]
 
@@ -76,20 +76,20 @@ module _ (config : Config) (seats : ℕ → Seat) (states after : List MemorySea
   seated = record { one_each = changed.long ∙ are.one_each; each = each_seat }
 
 -- a seat that is left as it was is as it was
-same_seat : (seats : ℕ → Seat) (node other : ℕ) → with_seat seats node (seats node) other ≡ seats other
+same_seat : (seats : ℕ → UpOrDown) (node other : ℕ) → with_seat seats node (seats node) other ≡ seats other
 same_seat seats node other = elim (cases_eq other node) as (λ _. with_seat seats node (seats node) other ≡ seats other) [
   | inl is ↦
       subst (λ (n : ℕ). with_seat seats node (seats node) n ≡ seats n) (sym is) (own_seat seats node (seats node))
   | inr differs ↦ other_seat seats node other (seats node) differs
 ]
 
-same_seats : (states : List MemorySeat) (config : Config) (seats : ℕ → Seat) (node : ℕ) → AreSeated states config (with_seat seats node (seats node)) → AreSeated states config seats
+same_seats : (states : List MemorySeat) (config : AgreementConfig) (seats : ℕ → UpOrDown) (node : ℕ) → AreSeated states config (with_seat seats node (seats node)) → AreSeated states config seats
 same_seats states config seats node are = record {
   one_each = are.one_each;
-  each = λ number state there. subst (λ (s : Seat). IsSeatOf config number state s) (same_seat seats node number) (are.each number state there);
+  each = λ number state there. subst (λ (s : UpOrDown). IsSeatOf config number state s) (same_seat seats node number) (are.each number state there);
 }
 
-module _ (alone : StepsAlone) (config : Config) (seats : ℕ → Seat) (states states-after : List MemorySeat) (old new : MemorySeat) (before after : List Message) (event : Event)
+module _ (alone : StepsAlone) (config : AgreementConfig) (seats : ℕ → UpOrDown) (states states-after : List MemorySeat) (old new : MemorySeat) (before after : List Message) (event : Event)
     (are : AreSeated states config seats) (was : slice_get states (node_of (event_of event)) ≡ Some old) (changed : IsChangedAt states states-after (node_of (event_of event)) new) where
   abbrev its : IsSeatOf config (node_of (event_of event)) old (seats (node_of (event_of event)))
   its = are.each (node_of (event_of event)) old was
@@ -109,7 +109,7 @@ module _ (alone : StepsAlone) (config : Config) (seats : ℕ → Seat) (states s
         left = with_seat seats place leaves.left;
         follows = alone config after (length before) seats step recovered leaves.left
             (subst (λ (n : ℕ). place < n) are.one_each (slice_get_within states place old was))
-            (subst (λ (c : Config). SeatGives c after (length before) recovered (seats place) step.event step.result leaves.left) its.config_is leaves.gives);
+            (subst (λ (c : AgreementConfig). NodeGives c after (length before) recovered (seats place) step.event step.result leaves.left) its.config_is leaves.gives);
         have = seated config seats states states-after place old new are was changed leaves.left leaves.placed leaves.me_is leaves.config_is leaves.stands;
       }
   one_answers (Err wants) (same, sends) =
@@ -119,12 +119,12 @@ module _ (alone : StepsAlone) (config : Config) (seats : ℕ → Seat) (states s
       )
 
   pub one_applies : {E : Type 0} (answer : Result EventResult E)
-      → (IsPlaced old → node_of (event_of event) ≡ old.me → (seat : Seat) → Stands old seat → MemorySeatAnswers old new seat before after (event_of event) answer)
+      → (IsPlaced old → node_of (event_of event) ≡ old.me → (seat : UpOrDown) → Stands old seat → MemorySeatAnswers old new seat before after (event_of event) answer)
       → Answers (AreSeated states-after config) config seats before after event answer
   one_applies answer applies = one_answers answer (applies its.placed (sym its.me) (seats (node_of (event_of event))) its.stands)
 
 -- an event of none of the nodes
-pub none_applies : (config : Config) (seats : ℕ → Seat) (states : List MemorySeat) (before : List Message) (event : Event) (given : EventResult)
+pub none_applies : (config : AgreementConfig) (seats : ℕ → UpOrDown) (states : List MemorySeat) (before : List Message) (event : Event) (given : EventResult)
     → AreSeated states config seats → config.members ≤ node_of (event_of event) → result_of given ≡ results.Refused results.OutOfRange
     → AppliesTo (AreSeated states config) config seats before before event given
 none_applies config seats states before event given are past is = record {
@@ -141,11 +141,11 @@ none_applies config seats states before event given are past is = record {
 -- ---- the first seats
 
 -- so many of the members are up, and have nothing
-pub record AreOpened (config : Config) (states : List MemorySeat) (count : ℕ) : Type 0 where
+pub record AreOpened (config : AgreementConfig) (states : List MemorySeat) (count : ℕ) : Type 0 where
   pub so_many : length states ≡ count
   pub each : (number : ℕ) (state : MemorySeat) → slice_get states number ≡ Some state → IsSeatOf config number state (at_first number)
 
-pub none_opened : (config : Config) → AreOpened config [] 0
+pub none_opened : (config : AgreementConfig) → AreOpened config [] 0
 none_opened config = record { so_many = refl; each = λ number state there. absurd (none_is_some state (sym (slice_get_past {X = MemorySeat} [] number (omega arith)) ∙ there)) }
 
 get_left : (xs ys : List MemorySeat) (k : ℕ) → k < length xs → slice_get (xs ++ ys) k ≡ slice_get xs k
@@ -159,7 +159,7 @@ get_last [] x (suc k) is = absurd (omega (arith, is))
 get_last (y ∷ xs) x zero is = absurd (omega (arith, is))
 get_last (y ∷ xs) x (suc k) is = get_last xs x k (omega (arith, is))
 
-module _ (config : Config) (states : List MemorySeat) (count : ℕ) (opened : AreOpened config states count) (state : MemorySeat) (is : IsSeatOf config count state (at_first count)) where
+module _ (config : AgreementConfig) (states : List MemorySeat) (count : ℕ) (opened : AreOpened config states count) (state : MemorySeat) (is : IsSeatOf config count state (at_first count)) where
   each_opened : (number : ℕ) (other : MemorySeat) → slice_get (states ++ state ∷ []) number ≡ Some other → IsSeatOf config number other (at_first number)
   each_opened number other there = elim (cases_lt number count) as (λ _. IsSeatOf config number other (at_first number)) [
     | inl within ↦ opened.each number other (sym (get_left states (state ∷ []) number (omega (arith, within, opened.so_many))) ∙ there)
@@ -173,7 +173,7 @@ module _ (config : Config) (states : List MemorySeat) (count : ℕ) (opened : Ar
   pub one_opened : AreOpened config (states ++ state ∷ []) (suc count)
   one_opened = record { so_many = length-append states (state ∷ []) ∙ omega (arith, opened.so_many); each = each_opened }
 
-pub all_opened : (config : Config) (states : List MemorySeat) → AreOpened config states config.members → AreSeated states config at_first
+pub all_opened : (config : AgreementConfig) (states : List MemorySeat) → AreOpened config states config.members → AreSeated states config at_first
 all_opened config states opened = record { one_each = opened.so_many; each = opened.each }
 
 -- ---- one seat among the others

@@ -2,7 +2,7 @@
 
 ghost use Rattle.std.specs.Prelude.{◌≡◌, ◌<◌, IfOk};
 ghost use Rattle.histories.specs.Event.{node_of};
-ghost use Rattle.histories.specs.Following.{Seat as HistorySeat, at_first};
+ghost use Rattle.histories.specs.Following.{UpOrDown as HistorySeat, at_first};
 ghost use Rattle.node_events.specs.Told.{event_of};
 ghost use Rattle.stored_nodes.specs.State.{IsPlaced, Stands};
 ghost use Rattle.schedule_runner.specs.Seated.{IsSeatOf, AreSeated, MemorySeatAnswers};

@@ -13,7 +13,7 @@ use Rattle.client_calls.specs.Answers.{IsAnswer, IsRefused, IsNoAnswer, Receives
 use Rattle.client_calls.specs.Results.{GivesInfo, HasInfo, MeansInfo}
 use Rattle.script_calls.specs.declared.told.Told.{Told}
 use Rattle.script_calls.specs.declared.told.Told.TheVariants as told
-use Rattle.script_calls.specs.Asking.{Question, puts, gets, informs, Tells, CanTell, as_received}
+use Rattle.script_calls.specs.Asking.{RequestMeaning, puts, gets, informs, Tells, CanTell, as_received}
 use Rattle.script_calls.specs.Informing.{InfoSays}
 
 -- ---- requests
@@ -124,7 +124,7 @@ tells_of_info table messages can = let tells = can.2 in (tells.values, tells.mea
 
 -- ---- a refusal is told
 
-received : (q : Question) (t : Told) (text rest : List ℕ) → Receives (Tells q) (CanTell q) (Ok t) text rest → Receives (Tells q) (CanTell q) (as_received (Ok t)) text rest
+received : (q : RequestMeaning) (t : Told) (text rest : List ℕ) → Receives (Tells q) (CanTell q) (Ok t) text rest → Receives (Tells q) (CanTell q) (as_received (Ok t)) text rest
 received q (told.Put version) text rest h = h
 received q (told.Get frames) text rest h = h
 received q (told.Info version locations) text rest h = h
@@ -132,7 +132,7 @@ received (puts upload) (told.Status code words) text rest h = absurd h.2
 received (gets version) (told.Status code words) text rest h = absurd h.2
 received (informs table) (told.Status code words) text rest h = absurd h.2
 
-pub told_received : (q : Question) (t : Told) (here after : Option (List ℕ)) → WhereKnown here after (Receives (Tells q) (CanTell q) (Ok t))
+pub told_received : (q : RequestMeaning) (t : Told) (here after : Option (List ℕ)) → WhereKnown here after (Receives (Tells q) (CanTell q) (Ok t))
     → WhereKnown here after (Receives (Tells q) (CanTell q) (as_received (Ok t)))
 told_received q t None after h = tt
 told_received q t (Some here) None h = absurd h

@@ -21,13 +21,13 @@ use Rattle.script_calls.specs.Informing.{IsServedAt}
 -- ---- what is asked
 
 -- that an upload is taken, for a version of a table, or what is told of a table
-pub data Question : Type 0 where
-  puts : Upload → Question
-  gets : TableVersion → Question
-  informs : List ℕ → Question
+pub data RequestMeaning : Type 0 where
+  puts : Upload → RequestMeaning
+  gets : TableVersion → RequestMeaning
+  informs : List ℕ → RequestMeaning
 
 -- the call of a script asks this; an upload is known by its encoding
-abbrev pub IsAsked : CallRequest → Question → Type 0
+abbrev pub IsAsked : CallRequest → RequestMeaning → Type 0
 IsAsked (asked.Put text) (puts upload) = IsUpload upload × (upload_text upload ≡ text)
 IsAsked (asked.Get ticket) (gets version) = version ≡ ticket
 IsAsked (asked.Info text) (informs table) = table ≡ text
@@ -39,7 +39,7 @@ IsAsked (asked.Info text) (puts upload) = ⊥
 IsAsked (asked.Info text) (gets version) = ⊥
 
 -- what a client writes
-abbrev pub request_of : Question → List ℕ
+abbrev pub request_of : RequestMeaning → List ℕ
 request_of (puts upload) = put_request upload
 request_of (gets version) = get_request version
 request_of (informs table) = info_request table
@@ -53,7 +53,7 @@ pub record TellsInfo (table : List ℕ) (messages : List (List ℕ)) (version lo
   pub served : IsServedAt table version locations values
 
 -- the messages of an answer tell this of what was asked
-abbrev pub Tells : Question → List (List ℕ) → Told → Type 0
+abbrev pub Tells : RequestMeaning → List (List ℕ) → Told → Type 0
 Tells (puts upload) messages (told.Put version) = GivesVersion upload.id messages version
 Tells (gets version) messages (told.Get frames) = GivesFrames messages frames
 Tells (informs table) messages (told.Info version locations) = TellsInfo table messages version locations
@@ -68,7 +68,7 @@ Tells (informs table) messages (told.Get frames) = ⊥
 Tells (informs table) messages (told.Status code words) = ⊥
 
 -- they tell something of it
-abbrev pub CanTell : Question → List (List ℕ) → Type 0
+abbrev pub CanTell : RequestMeaning → List (List ℕ) → Type 0
 CanTell (puts upload) messages = HasVersion upload.id messages
 CanTell (gets version) messages = HasFrames messages
 CanTell (informs table) messages = (version locations : ℕ) × TellsInfo table messages version locations

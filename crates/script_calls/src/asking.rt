@@ -7,7 +7,7 @@ ghost use Rattle.table_types.specs.Valid.{IsUpload};
 ghost use Rattle.proto_wire.specs.FlightValues.{endpoint_values, info_values};
 ghost use Rattle.client_calls.specs.Answers.{Receives, Requests};
 ghost use Rattle.client_calls.specs.Requests.{get_request, info_request, put_request};
-ghost use Rattle.script_calls.specs.Asking.{Question, puts, gets, informs, IsAsked, request_of, Tells, CanTell, as_received};
+ghost use Rattle.script_calls.specs.Asking.{RequestMeaning, puts, gets, informs, IsAsked, request_of, Tells, CanTell, as_received};
 ghost use Rattle.script_calls.specs.Informing.{EndpointSays, InfoSays};
 
 use crate::told::{Told, Unanswered};
@@ -106,9 +106,9 @@ fn answer<R: Read, W: Write>(
     w: &mut W,
     asked: &CallRequest,
 ) -> Result<Told, ClientFault>
-    ensures sent { (question : Question) → IsAsked asked.now question
+    ensures sent { (question : RequestMeaning) → IsAsked asked.now question
         → WhereKnown (W.contents w.old) (W.contents w.new) (Requests result (request_of question)) }
-    ensures told { (question : Question) → IsAsked asked.now question
+    ensures told { (question : RequestMeaning) → IsAsked asked.now question
         → WhereKnown (R.remaining r.old) (R.remaining r.new) (Receives (Tells question) (CanTell question) result) }
 {
     match asked {
@@ -135,10 +135,10 @@ pub fn ask<R: Read, W: Write>(
     asked: &CallRequest,
 ) -> Result<Told, Unanswered>
     // What has gone out is the request, or a beginning of it where it could not be written.
-    ensures sent { (question : Question) → IsAsked asked.now question
+    ensures sent { (question : RequestMeaning) → IsAsked asked.now question
         → WhereKnown (W.contents w.old) (W.contents w.new) (Requests (as_received result) (request_of question)) }
     // What was told, and what is left of the input behind it.
-    ensures told { (question : Question) → IsAsked asked.now question
+    ensures told { (question : RequestMeaning) → IsAsked asked.now question
         → WhereKnown (R.remaining r.old) (R.remaining r.new)
         (Receives (Tells question) (CanTell question) (as_received result)) }
 {

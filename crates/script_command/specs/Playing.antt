@@ -1,15 +1,15 @@
 -- What is written of a script: the line of each of its calls, and whether what was answered is confirmed.
 use Rattle.std.specs.Prelude.{ℕ, zero, suc, Option, List, codes}
 use Rattle.std.specs.Io.KnownBytes.{Appends, Keeps}
-use Rattle.run_files.specs.declared.script.NodeCount.{NodeCount}
-use Rattle.run_files.specs.declared.script.Call.{Call}
+use Rattle.run_files.specs.declared.script.ClusterSize.{ClusterSize}
+use Rattle.run_files.specs.declared.script.ScriptCall.{ScriptCall}
 use Rattle.run_files.specs.ScriptFile.{MeansScript}
 use Rattle.script_calls.specs.declared.told.Told.{Told}
 use Rattle.script_calls.specs.Lines.{line_of}
 
 -- the file tells no script
 abbrev pub MeansNoScript : List ℕ → Type 0
-MeansNoScript file = (nodes : NodeCount) (calls : List Call) → MeansScript file nodes calls → ⊥
+MeansNoScript file = (nodes : ClusterSize) (calls : List ScriptCall) → MeansScript file nodes calls → ⊥
 
 -- the lines of so many calls were written, from call 0 on, each of what was told to it
 abbrev pub WritesLines : Option (List ℕ) → ℕ → Option (List ℕ) → Type 0

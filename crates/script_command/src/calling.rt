@@ -33,7 +33,7 @@ const SILENCE_SECONDS: u64 = 60;
 fn ask_node<R: Net<Stream = TcpStream>>(
     rt: &R,
     alloc: Global,
-    call: &Call,
+    call: &ScriptCall,
 ) -> Result<Told, Unplayed> {
     let address = SocketAddr::from((Ipv4Addr::LOCALHOST, FIRST_PORT + u16::from(call.node)));
     let Ok(stream) = TcpStream::connect(rt, address) else {
@@ -47,7 +47,7 @@ fn ask_node<R: Net<Stream = TcpStream>>(
 }
 
 // Makes the call over this connection.
-fn ask_over(alloc: Global, stream: &TcpStream, call: &Call) -> Result<Told, Unplayed> {
+fn ask_over(alloc: Global, stream: &TcpStream, call: &ScriptCall) -> Result<Told, Unplayed> {
     let (Ok(mut input), Ok(mut output)) = (
         BufReader::new(alloc, stream),
         BufWriter::new(alloc, stream),
@@ -64,7 +64,7 @@ fn ask_over(alloc: Global, stream: &TcpStream, call: &Call) -> Result<Told, Unpl
 fn told_to<R: Net<Stream = TcpStream> + Threads + Clock>(
     rt: &R,
     alloc: Global,
-    call: &Call,
+    call: &ScriptCall,
 ) -> Result<Told, Unplayed> {
     let mut told = ask_node(rt, alloc, call)?;
     for _ in 1..MOST_TRIES {
@@ -100,7 +100,7 @@ fn play_call<R: Net<Stream = TcpStream> + Threads + Clock, W: Write>(
     rt: &R,
     alloc: Global,
     number: usize,
-    call: &Call,
+    call: &ScriptCall,
     w: &mut W,
 ) -> Result<(), Unplayed>
     ensures { OnOk result ((told : Answered) × Appends (W.contents w.old) (W.contents w.new) (line_of number told)) }
@@ -114,7 +114,7 @@ fn play_call<R: Net<Stream = TcpStream> + Threads + Clock, W: Write>(
 pub(crate) fn play_calls<R: Net<Stream = TcpStream> + Threads + Clock, W: Write>(
     rt: &R,
     alloc: Global,
-    calls: &[Call],
+    calls: &[ScriptCall],
     w: &mut W,
 ) -> Result<(), Unplayed>
     ensures { OnOk result (WritesLines (W.contents w.old) (length calls.now) (W.contents w.new)) }

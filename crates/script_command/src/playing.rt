@@ -2,8 +2,8 @@
 
 ghost use Rattle.std.specs.Prelude.{◌≡◌, ◌⊎◌, ℕ, List, OnOk, IfOk, IsErrOf, length, if◌then◌else◌, []};
 ghost use Rattle.std.specs.Io.KnownBytes.{Appends, Keeps};
-ghost use Rattle.run_files.specs.declared.script.NodeCount.{NodeCount as Counted};
-ghost use Rattle.run_files.specs.declared.script.Call.{Call as Calling};
+ghost use Rattle.run_files.specs.declared.script.ClusterSize.{ClusterSize as Counted};
+ghost use Rattle.run_files.specs.declared.script.ScriptCall.{ScriptCall as Calling};
 ghost use Rattle.run_files.specs.ScriptFile.{MeansScript};
 ghost use Rattle.script_command.specs.Playing.{MeansNoScript, WritesAll, confirmed_line, unconfirmed_line};
 
@@ -16,7 +16,7 @@ use flight_service::{
 };
 use ghost_log::Opened;
 use grpc_frames::transfer::put;
-use run_files::{Call, NodeCount, ScriptFault, read_script, script_flaw};
+use run_files::{ClusterSize, ScriptCall, ScriptFault, read_script, script_flaw};
 use std::alloc::Global;
 use std::hash::RandomState;
 use std::io::Write;
@@ -100,10 +100,17 @@ pub fn script_file<
     };
     let calls = script.calls.as_slice();
     let played = match script.nodes {
-        NodeCount::Three => {
+        ClusterSize::Three => {
             play_at_three::<R, W, Brand>(rt, alloc, hashing, calls, w, Opened::new())
         }
-        NodeCount::Five => play_at_five::<R, W, Brand>(rt, alloc, hashing, calls, w, Opened::new()),
+        ClusterSize::Five => play_at_five::<R, W, Brand>(
+            rt,
+            alloc,
+            hashing,
+            calls,
+            w,
+            Opened::new(),
+        ),
     };
     match played {
         Ok(ok) => Ok(ok),
@@ -126,7 +133,7 @@ fn play_at_three<
     rt: R,
     alloc: Global,
     hashing: RandomState,
-    calls: &[Call],
+    calls: &[ScriptCall],
     w: &mut W,
     log: Opened<OwnEntry>,
 ) -> Result<bool, Unplayed>
@@ -156,7 +163,7 @@ fn play_at_five<
     rt: R,
     alloc: Global,
     hashing: RandomState,
-    calls: &[Call],
+    calls: &[ScriptCall],
     w: &mut W,
     log: Opened<OwnEntry>,
 ) -> Result<bool, Unplayed>
@@ -188,7 +195,7 @@ fn play_at<
     nodes: C,
     notes: Vec<Receiver<Note>>,
     count: u8,
-    calls: &[Call],
+    calls: &[ScriptCall],
     w: &mut W,
 ) -> Result<bool, Unplayed>
     ensures { IfOk result (λ ok. WritesAll (W.contents w.old) (length calls.now)

@@ -1,6 +1,8 @@
 //! Files that tell a script, and files that tell none.
 
-use run_files::{Call, CallRequest, NodeCount, Script, ScriptFault, read_script, script_flaw};
+use run_files::{
+    CallRequest, ClusterSize, Script, ScriptCall, ScriptFault, read_script, script_flaw,
+};
 use std::alloc::{AllocError, Global};
 use std::test::Fail;
 
@@ -42,7 +44,7 @@ fn has_bad_calls(alloc: Global, nodes: &str, calls: &str) -> Result<bool, Fail> 
 }
 
 /// A call in words: the node, and what it is asked.
-fn words_of(alloc: Global, call: &Call) -> Result<String, AllocError> {
+fn words_of(alloc: Global, call: &ScriptCall) -> Result<String, AllocError> {
     let node = call.node;
     match &call.asked {
         CallRequest::Put(upload) => {
@@ -83,7 +85,7 @@ fn known(alloc: Global) -> Result<Script, Fail> {
 fn reads_each_call_as_what_it_tells(rt: HostRuntime) -> Result<(), Fail> {
     let alloc = rt.alloc();
     let script = known(alloc)?;
-    assert!(rt; script.nodes == NodeCount::Three);
+    assert!(rt; script.nodes == ClusterSize::Three);
     assert!(rt; script.calls.len() == 3);
     assert!(rt; is_call(alloc, &script, 0, "0 put t 344")?);
     assert!(rt; is_call(alloc, &script, 1, "1 get t 1")?);
@@ -123,8 +125,8 @@ fn counts_three_nodes_or_five(rt: HostRuntime) -> Result<(), Fail> {
 /// How many members those are who agree.
 #[test]
 fn has_as_many_members_as_nodes(rt: HostRuntime) {
-    assert!(rt; NodeCount::Three.members().count() == 3);
-    assert!(rt; NodeCount::Five.members().count() == 5);
+    assert!(rt; ClusterSize::Three.members().count() == 3);
+    assert!(rt; ClusterSize::Five.members().count() == 5);
 }
 
 /// A node is one of the cluster's.
@@ -308,7 +310,7 @@ fn passes_over_other_members(rt: HostRuntime) {
     let file =
         "{\"members\":9,\"nodes\":4,\"calls\":0,\"events\":[1],\"calls\":[],\"nodes\":5,\"uploads\":{}}";
     match read_script(alloc, file.as_bytes()) {
-        Ok(script) => assert!(rt; script.nodes == NodeCount::Five && script.calls.is_empty()),
+        Ok(script) => assert!(rt; script.nodes == ClusterSize::Five && script.calls.is_empty()),
         Err(_) => assert!(rt; false),
     }
 }

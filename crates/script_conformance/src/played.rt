@@ -2,7 +2,7 @@
 
 use crate::support::{request, script, told_by};
 use flight_calls::serve_call;
-use run_files::Call;
+use run_files::ScriptCall;
 use script_calls::{Told, asks_again};
 use std::alloc::Global;
 use std::hash::RandomState;
@@ -39,7 +39,7 @@ fn tables(rt: &HostRuntime, count: usize) -> Result<Box<TableBackend>, Fail> {
 }
 
 /// What the tables tell a call.
-fn told(alloc: Global, tables: &mut TableBackend, call: &Call) -> Result<Told, Fail> {
+fn told(alloc: Global, tables: &mut TableBackend, call: &ScriptCall) -> Result<Told, Fail> {
     let request = request(alloc, call)?;
     let mut reader = request.as_slice();
     let mut answer = Vec::new(alloc);

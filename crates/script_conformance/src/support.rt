@@ -1,6 +1,6 @@
 //! Calls of a script, and what they make of bytes.
 
-use run_files::{Call, Script, read_script};
+use run_files::{Script, ScriptCall, read_script};
 use script_calls::{Told, Unanswered, ask};
 use std::alloc::Global;
 use std::test::Fail;
@@ -15,7 +15,7 @@ pub(crate) fn script(alloc: Global, calls: &str) -> Result<Script, Fail> {
 }
 
 /// The one call of such a script.
-pub(crate) fn only_call(alloc: Global, call: &str) -> Result<Call, Fail> {
+pub(crate) fn only_call(alloc: Global, call: &str) -> Result<ScriptCall, Fail> {
     match script(alloc, call)?.calls.pop() {
         Some(call) => Ok(call),
         None => Err(Fail::from("no call")),
@@ -23,7 +23,7 @@ pub(crate) fn only_call(alloc: Global, call: &str) -> Result<Call, Fail> {
 }
 
 /// The request of a call, which is not answered.
-pub(crate) fn request(alloc: Global, call: &Call) -> Result<Vec<u8>, Fail> {
+pub(crate) fn request(alloc: Global, call: &ScriptCall) -> Result<Vec<u8>, Fail> {
     let mut reader: &[u8] = &[];
     let mut writer = Vec::new(alloc);
     match ask(alloc, &mut reader, &mut writer, &call.asked) {
@@ -33,7 +33,7 @@ pub(crate) fn request(alloc: Global, call: &Call) -> Result<Vec<u8>, Fail> {
 }
 
 /// What a call is told by these bytes.
-pub(crate) fn told_by(alloc: Global, call: &Call, answer: &[u8]) -> Result<Told, Unanswered> {
+pub(crate) fn told_by(alloc: Global, call: &ScriptCall, answer: &[u8]) -> Result<Told, Unanswered> {
     let mut reader = answer;
     ask(alloc, &mut reader, &mut Vec::new(alloc), &call.asked)
 }

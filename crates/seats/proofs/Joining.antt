@@ -6,14 +6,14 @@ use Rattle.std.proofs.lemmas.Option.{slice_get_within}
 use Rattle.std.proofs.Math.Seq.{drop-append_seam}
 use Rattle.journal.specs.parts.ballots.specs.declared.message.Message.{Message}
 use Rattle.journal.specs.parts.ballots.specs.declared.record.Record.{Record}
-use Rattle.journal.specs.parts.agreement_rules.specs.Views.{Config, Views, started_with}
+use Rattle.journal.specs.parts.agreement_rules.specs.Views.{AgreementConfig, Views, started_with}
 use Rattle.journal.specs.parts.agreement_rules.specs.Due.{Plan, Plans}
 use Rattle.journal.specs.parts.histories.specs.Event.{node_of}
 use Rattle.journal.specs.parts.histories.specs.EventResult.{count_of}
 use Rattle.journal.specs.parts.histories.specs.Due.{IsDue, InputKeeps}
 use Rattle.journal.specs.parts.histories.specs.Due as owed
-use Rattle.journal.specs.parts.histories.specs.Following.{Seat, IsUp, IsDown, SeatGives, IsAsked, recovered_in}
-use Rattle.journal.specs.parts.histories.specs.Owning.{Entry, concerns, is_question, entry_of, entries_of, OwnReaches}
+use Rattle.journal.specs.parts.histories.specs.Following.{UpOrDown, IsUp, IsDown, NodeGives, IsAsked, recovered_in}
+use Rattle.journal.specs.parts.histories.specs.Owning.{OwnEntry, concerns, is_query, entry_of, entries_of, OwnReaches}
 use Rattle.journal.specs.parts.node_events.specs.declared.event.Event.{Event}
 use Rattle.journal.specs.parts.node_events.specs.declared.event.Event.TheVariants as event
 use Rattle.journal.specs.parts.node_events.specs.Told.{event_of, result_of}
@@ -28,9 +28,9 @@ use Rattle.seats.specs.Entries.{done_step, done_entry, cut_step, cut_entry, rest
 -- ---- a step of a node
 
 -- what the node gives, as a step that is next
-pub next_at : (journal : Journaled) (me : ℕ) (step : Step) (more : List Message) (was : Bool) (old new : Seat) → node_of (event_of step.event) ≡ me → me < journal.trace.config.members
+pub next_at : (journal : Journaled) (me : ℕ) (step : Step) (more : List Message) (was : Bool) (old new : UpOrDown) → node_of (event_of step.event) ≡ me → me < journal.trace.config.members
     → OwnReaches (config_of journal.trace.config) (seats_in journal.start me) (own_in me journal) old
-    → SeatGives (config_of journal.trace.config) (journal.trace.sent ++ more) (length journal.trace.sent) was old (event_of step.event) (result_of step.result) new
+    → NodeGives (config_of journal.trace.config) (journal.trace.sent ++ more) (length journal.trace.sent) was old (event_of step.event) (result_of step.result) new
     → IsAsked (event_of step.event) was → length more ≡ count_of (result_of step.result) → IsNext journal step more was old new
 next_at journal me step more was old new is member led gives asked counted = record {
   member = subst (λ (m : ℕ). m < journal.trace.config.members) (sym is) member;
@@ -46,27 +46,27 @@ next_at journal me step more was old new is member led gives asked counted = rec
 pub concerning : (me : ℕ) (here question : Bool) → here ≡ true → question ≡ false → (here && not question) ≡ true
 concerning me here question is none = ap (λ (b : Bool). b && not question) is ∙ ap (λ (b : Bool). not b) none
 
-pub mine_grow : (before after : Journaled) (me : ℕ) (step : Step) (more : List Message) (was : Bool) (own : List Entry) (entry : Entry) → EntersOwn before step more was after
+pub mine_grow : (before after : Journaled) (me : ℕ) (step : Step) (more : List Message) (was : Bool) (own : List OwnEntry) (entry : OwnEntry) → EntersOwn before step more was after
     → me < before.trace.config.members → own_in me before ≡ own → concerns me (event_of step.event) ≡ true → entry_of after.trace.sent (step_of step) was ≡ entry
     → own_in me after ≡ own ++ entry ∷ []
 mine_grow before after me step more was own entry enters member is mine one =
     enters.grows me member
-    ∙ (ap (λ (es : List Entry). es ++ entries_of me after.trace.sent (step_of step) was) is
-    ∙ ap (λ (es : List Entry). own ++ es)
-    (ap (λ (b : Bool). if b then entry_of after.trace.sent (step_of step) was ∷ [] else []) mine ∙ ap (λ (e : Entry). e ∷ []) one))
+    ∙ (ap (λ (es : List OwnEntry). es ++ entries_of me after.trace.sent (step_of step) was) is
+    ∙ ap (λ (es : List OwnEntry). own ++ es)
+    (ap (λ (b : Bool). if b then entry_of after.trace.sent (step_of step) was ∷ [] else []) mine ∙ ap (λ (e : OwnEntry). e ∷ []) one))
 
-pub mine_stay : (before after : Journaled) (me : ℕ) (step : Step) (more : List Message) (was : Bool) (own : List Entry) → EntersOwn before step more was after
+pub mine_stay : (before after : Journaled) (me : ℕ) (step : Step) (more : List Message) (was : Bool) (own : List OwnEntry) → EntersOwn before step more was after
     → me < before.trace.config.members → own_in me before ≡ own → concerns me (event_of step.event) ≡ false → own_in me after ≡ own
 mine_stay before after me step more was own enters member is none =
     enters.grows me member
-    ∙ (ap (λ (es : List Entry). es ++ entries_of me after.trace.sent (step_of step) was) is
+    ∙ (ap (λ (es : List OwnEntry). es ++ entries_of me after.trace.sent (step_of step) was) is
     ∙ (ap (λ (b : Bool). own ++ (if b then entry_of after.trace.sent (step_of step) was ∷ [] else [])) none ∙ append-nil own))
 
-pub others_stay : (before after : Journaled) (me other : ℕ) (step : Step) (more : List Message) (was : Bool) (own : List Entry) → EntersOwn before step more was after
+pub others_stay : (before after : Journaled) (me other : ℕ) (step : Step) (more : List Message) (was : Bool) (own : List OwnEntry) → EntersOwn before step more was after
     → node_of (event_of step.event) ≡ me → other ≢ me → other < before.trace.config.members → own_in other before ≡ own → own_in other after ≡ own
 others_stay before after me other step more was own enters of differs member is =
     mine_stay before after other step more was own enters member is
-    (ap (λ (b : Bool). b && not (is_question (event_of step.event))) (ne_eqb (node_of (event_of step.event)) other (λ same. differs (sym same ∙ of))))
+    (ap (λ (b : Bool). b && not (is_query (event_of step.event))) (ne_eqb (node_of (event_of step.event)) other (λ same. differs (sym same ∙ of))))
 
 -- ---- an input that is done
 
@@ -88,7 +88,7 @@ next_sent before sends =
 none_of : (plan made : Plan) → plan ≡ made → made.sends ≡ [] → plan.sends ≡ []
 none_of plan made is none = subst (λ (p : Plan). p.sends ≡ []) (sym is) none
 
-pub put_sends_none : (config : Config) (me : ℕ) (views : Views) (text : List ℕ) (plan : Plan) → IsDue config me views (owed.Put text) (Plans plan) → plan.sends ≡ []
+pub put_sends_none : (config : AgreementConfig) (me : ℕ) (views : Views) (text : List ℕ) (plan : Plan) → IsDue config me views (owed.Put text) (Plans plan) → plan.sends ≡ []
 put_sends_none config me views text plan (inl due) = none_of plan _ due.1 refl
 put_sends_none config me views text plan (inr due) = none_of plan _ due.3 refl
 
@@ -149,7 +149,7 @@ concerns_cut me (Deliver number message) cut is = ap (λ (e : Event). concerns m
 some_none : (last : Record) → Some last ≡ None → ⊥
 some_none last is = cc
 
-pub cut_there : (config : Config) (me : ℕ) (views : Views) (input : SeatInput) (last : Record) → InputKeeps config me views (input_of input) (Some last) → (cut : Event) × IsCutAt me input cut
+pub cut_there : (config : AgreementConfig) (me : ℕ) (views : Views) (input : SeatInput) (last : Record) → InputKeeps config me views (input_of input) (Some last) → (cut : Event) × IsCutAt me input cut
 cut_there config me views (Put upload) last keeps = absurd (some_none last keeps)
 cut_there config me views (Tick left) last keeps = (event.TickCut me left, refl)
 cut_there config me views (Deliver number message) last keeps = (event.DeliverCut me number, refl)
@@ -187,7 +187,7 @@ cut_is_own sent me (Deliver number message) cut is there =
 pub concerns_restart : (me : ℕ) → concerns me (event_of (event.Restart me)) ≡ true
 concerns_restart me = ap (λ (b : Bool). b && true) (eq-eqb me me refl)
 
-pub next_restart : (journal : Journaled) (me : ℕ) (stood : Seat) (was : Bool) → me < journal.trace.config.members
+pub next_restart : (journal : Journaled) (me : ℕ) (stood : UpOrDown) (was : Bool) → me < journal.trace.config.members
     → OwnReaches (config_of journal.trace.config) (seats_in journal.start me) (own_in me journal) stood
     → IsNext journal (restart_step me) [] was stood (IsUp (started_with (recovered_in was stood)))
 next_restart journal me (IsUp views) was member led =

@@ -2,18 +2,18 @@
 use Rattle.std.proofs.Common.{◌≡◌, ◌⊎◌, inl, inr, ℕ, ◌<◌, Bool, true, false, Option, None, Some, List, [], ◌∷◌, ◌++◌, length, refl, sym, ap, subst, ◌∙◌}
 use Rattle.journal.specs.parts.ballots.specs.declared.message.Message.{Message}
 use Rattle.journal.specs.parts.ballots.specs.declared.record.Record.{Record}
-use Rattle.journal.specs.parts.agreement_rules.specs.Views.{Config, Views, started_with}
+use Rattle.journal.specs.parts.agreement_rules.specs.Views.{AgreementConfig, Views, started_with}
 use Rattle.journal.specs.parts.agreement_rules.specs.Due.{Plan, Plans}
 use Rattle.journal.specs.parts.histories.specs.Event.{node_of}
 use Rattle.journal.specs.parts.histories.specs.Due.{IsDue, InputKeeps}
-use Rattle.journal.specs.parts.histories.specs.Following.{Seat, IsUp, with_due, recovered_in}
+use Rattle.journal.specs.parts.histories.specs.Following.{UpOrDown, IsUp, with_due, recovered_in}
 use Rattle.journal.specs.parts.histories.specs.Following as following
-use Rattle.journal.specs.parts.histories.specs.Owning.{Entry, concerns, entry_of, own, OwnReaches}
+use Rattle.journal.specs.parts.histories.specs.Owning.{OwnEntry, concerns, entry_of, own, OwnReaches}
 use Rattle.node_core.specs.declared.plan.Planned.{Planned}
 use Rattle.node_core.specs.Plans.{sent_by}
 use Rattle.journal.specs.parts.node_events.specs.declared.event.Event.{Event}
 use Rattle.journal.specs.parts.node_events.specs.Told.{event_of}
-use Rattle.stored_nodes.specs.State.{SeatState, IsPlaced, StandsUp}
+use Rattle.stored_nodes.specs.State.{StoredNodeState, IsPlaced, StandsUp}
 use Rattle.stored_nodes.specs.Parts.{IsDoneFor, IsBrokenOff}
 use Rattle.journal.specs.parts.traces.specs.declared.step.Step.{Step}
 use Rattle.journal.specs.parts.traces.specs.declared.config.Config.{Config as RunConfig}
@@ -29,19 +29,19 @@ use Rattle.seats.proofs.Joining.{mine_grow, others_stay, node_at, concerns_done,
 
 -- ---- a seat and its journal
 
-pub member_in : {S : Type 0} (seat : RunningSeat S) (journal : Journaled) (stood : Seat) → IsLedTo seat stood → Agrees seat journal → seat.node.me < journal.trace.config.members
+pub member_in : {S : Type 0} (seat : RunningSeat S) (journal : Journaled) (stood : UpOrDown) → IsLedTo seat stood → Agrees seat journal → seat.node.me < journal.trace.config.members
 member_in seat journal stood led agrees =
-    subst (λ (c : RunConfig). seat.node.me < c.members) (sym agrees.0) (subst (λ (c : Config). seat.node.me < c.members) led.config_is led.placed.member)
+    subst (λ (c : RunConfig). seat.node.me < c.members) (sym agrees.0) (subst (λ (c : AgreementConfig). seat.node.me < c.members) led.config_is led.placed.member)
 
-pub config_in : {S : Type 0} (seat : RunningSeat S) (journal : Journaled) (stood : Seat) → IsLedTo seat stood → Agrees seat journal → seat.node.config ≡ config_of journal.trace.config
+pub config_in : {S : Type 0} (seat : RunningSeat S) (journal : Journaled) (stood : UpOrDown) → IsLedTo seat stood → Agrees seat journal → seat.node.config ≡ config_of journal.trace.config
 config_in seat journal stood led agrees = led.config_is ∙ ap config_of (sym agrees.0)
 
-pub led_in : {S : Type 0} (seat : RunningSeat S) (journal : Journaled) (stood : Seat) → IsLedTo seat stood → Agrees seat journal
+pub led_in : {S : Type 0} (seat : RunningSeat S) (journal : Journaled) (stood : UpOrDown) → IsLedTo seat stood → Agrees seat journal
     → OwnReaches (config_of journal.trace.config) (seats_in journal.start seat.node.me) (own_in seat.node.me journal) stood
 led_in seat journal stood led agrees =
     subst (λ (c : RunConfig). OwnReaches (config_of c) (seats_in journal.start seat.node.me) (own_in seat.node.me journal) stood) (sym agrees.0)
-    (subst (λ (mine : List Entry). OwnReaches (config_of seat.config) (seats_in journal.start seat.node.me) mine stood) (sym agrees.1)
-    (subst (λ (begun : Seat). OwnReaches (config_of seat.config) begun seat.own stood) (sym agrees.2) led.led))
+    (subst (λ (mine : List OwnEntry). OwnReaches (config_of seat.config) (seats_in journal.start seat.node.me) mine stood) (sym agrees.1)
+    (subst (λ (begun : UpOrDown). OwnReaches (config_of seat.config) begun seat.own stood) (sym agrees.2) led.led))
 
 -- a journal that tells the same has the same own entries
 pub same_own : (before after : Journaled) (node : ℕ) → TellsSame before after → own_in node after ≡ own_in node before
@@ -50,10 +50,10 @@ same_own before after node same =
     (subst (λ (ss : List Step). own node before.trace.sent (steps_of ss) after.recovered ≡ own_in node before) (sym same.trace.steps_are)
     (subst (λ (rs : List Bool). own node before.trace.sent (steps_of before.trace.steps) rs ≡ own_in node before) (sym same.recovered_is) refl))
 
-pub still_agrees : (config : RunConfig) (node : ℕ) (start : Seat) (mine : List Entry) (before after : Journaled) → TellsSame before after → HasOwn config node start mine before
+pub still_agrees : (config : RunConfig) (node : ℕ) (start : UpOrDown) (mine : List OwnEntry) (before after : Journaled) → TellsSame before after → HasOwn config node start mine before
     → HasOwn config node start mine after
 still_agrees config node start mine before after same has =
-    (same.trace.config_is ∙ has.0, same_own before after node same ∙ has.1, ap (λ (begun : List Seat). seats_in begun node) same.start_is ∙ has.2)
+    (same.trace.config_is ∙ has.0, same_own before after node same ∙ has.1, ap (λ (begun : List UpOrDown). seats_in begun node) same.start_is ∙ has.2)
 
 -- others keep what they agree on, where a step of this node is entered
 pub others_agree : (before after : Journaled) (me : ℕ) (step : Step) (more : List Message) (was : Bool) → node_of (event_of step.event) ≡ me → EntersOwn before step more was after
@@ -61,7 +61,7 @@ pub others_agree : (before after : Journaled) (me : ℕ) (step : Step) (more : L
 others_agree before after me step more was of enters entry config other start mine differs member has = (
   entry.trace.config_is ∙ has.0,
   others_stay before after me other step more was mine enters of differs (subst (λ (c : RunConfig). other < c.members) (sym has.0) member) has.1,
-  ap (λ (begun : List Seat). seats_in begun other) entry.start_is ∙ has.2,
+  ap (λ (begun : List UpOrDown). seats_in begun other) entry.start_is ∙ has.2,
 )
 
 -- ---- a node that is up
@@ -77,19 +77,19 @@ was_up old (following.IsDown records due, led) up = absurd (up led.stands.down)
 -- ---- a step that is entered
 
 -- the seat behind it: its node is this, and it has one entry more
-pub record HasMore {S : Type 0} (old new : RunningSeat S) (node : SeatState S) (entry : Entry) : Type 0 where
+pub record HasMore {S : Type 0} (old new : RunningSeat S) (node : StoredNodeState S) (entry : OwnEntry) : Type 0 where
   pub config_is : new.config ≡ old.config
   pub start_is : new.start ≡ old.start
   pub node_is : new.node ≡ node
   pub own_is : new.own ≡ old.own ++ entry ∷ []
 
 -- what the step leaves the seat
-pub record Leaves {S : Type 0} (new : RunningSeat S) (after : Journaled) (left : Seat) : Type 0 where
+pub record Leaves {S : Type 0} (new : RunningSeat S) (after : Journaled) (left : UpOrDown) : Type 0 where
   pub led : IsLedTo new left
   pub agrees : Agrees new after
 
 -- the seat behind a step of its node that is no question
-pub leaves : {S : Type 0} (old new : RunningSeat S) (node : SeatState S) (before after : Journaled) (step : Step) (more : List Message) (was : Bool) (entry : Entry) (stood left : Seat)
+pub leaves : {S : Type 0} (old new : RunningSeat S) (node : StoredNodeState S) (before after : Journaled) (step : Step) (more : List Message) (was : Bool) (entry : OwnEntry) (stood left : UpOrDown)
     → HasMore old new node entry → Agrees old before → IsLedTo old stood → node_of (event_of step.event) ≡ old.node.me → concerns old.node.me (event_of step.event) ≡ true
     → entry_of after.trace.sent (step_of step) was ≡ entry → IsNext before step more was stood left → EntersOwn before step more was after → HasEntry before step more was after
     → node.me ≡ old.node.me → node.config ≡ old.node.config → IsPlaced node → StandsSo node left → Leaves new after left
@@ -97,40 +97,40 @@ leaves {S = S} old new node before after step more was entry stood left has agre
     let me = old.node.me in
     let grown : own_in me after ≡ new.own = mine_grow before after me step more was old.own entry enters (member_in old before stood led agrees) agrees.1 mine one ∙ sym has.own_is in
     let config : after.trace.config ≡ new.config = entered.trace.config_is ∙ (agrees.0 ∙ sym has.config_is) in
-    let new_me : new.node.me ≡ me = ap (λ (s : SeatState S). s.me) has.node_is ∙ me_is in
+    let new_me : new.node.me ≡ me = ap (λ (s : StoredNodeState S). s.me) has.node_is ∙ me_is in
     let reaches : OwnReaches (config_of before.trace.config) (seats_in before.start me) (own_in me after) left =
     subst (λ (m : ℕ). OwnReaches (config_of before.trace.config) (seats_in before.start m) (own_in m after) left) of (enters.leaves stood left next) in
     record {
       led = record {
-        config_is = ap (λ (s : SeatState S). s.config) has.node_is ∙ (config_is ∙ (led.config_is ∙ ap config_of (sym has.config_is)));
-        placed = subst (λ (s : SeatState S). IsPlaced s) (sym has.node_is) placed;
+        config_is = ap (λ (s : StoredNodeState S). s.config) has.node_is ∙ (config_is ∙ (led.config_is ∙ ap config_of (sym has.config_is)));
+        placed = subst (λ (s : StoredNodeState S). IsPlaced s) (sym has.node_is) placed;
         led =
-            subst (λ (begun : Seat). OwnReaches (config_of new.config) begun new.own left) (agrees.2 ∙ sym has.start_is)
-            (subst (λ (es : List Entry). OwnReaches (config_of new.config) (seats_in before.start me) es left) grown
+            subst (λ (begun : UpOrDown). OwnReaches (config_of new.config) begun new.own left) (agrees.2 ∙ sym has.start_is)
+            (subst (λ (es : List OwnEntry). OwnReaches (config_of new.config) (seats_in before.start me) es left) grown
             (subst (λ (c : RunConfig). OwnReaches (config_of c) (seats_in before.start me) (own_in me after) left) (agrees.0 ∙ sym has.config_is) reaches));
-        stands = subst (λ (s : SeatState S). StandsSo s left) (sym has.node_is) stands;
+        stands = subst (λ (s : StoredNodeState S). StandsSo s left) (sym has.node_is) stands;
       };
       agrees = (
         config,
         subst (λ (m : ℕ). own_in m after ≡ new.own) (sym new_me) grown,
-        ap (seats_in after.start) new_me ∙ (ap (λ (begun : List Seat). seats_in begun me) entered.start_is ∙ (agrees.2 ∙ sym has.start_is)),
+        ap (seats_in after.start) new_me ∙ (ap (λ (begun : List UpOrDown). seats_in begun me) entered.start_is ∙ (agrees.2 ∙ sym has.start_is)),
       );
     }
 
 -- ---- an input that is done
 
-due_in : {S : Type 0} (seat : RunningSeat S) (journal : Journaled) (stood : Seat) (views : Views) (input : SeatInput) (plan : Plan) → IsLedTo seat stood → Agrees seat journal
+due_in : {S : Type 0} (seat : RunningSeat S) (journal : Journaled) (stood : UpOrDown) (views : Views) (input : SeatInput) (plan : Plan) → IsLedTo seat stood → Agrees seat journal
     → IsDue seat.node.config seat.node.me views (input_of input) (Plans plan) → IsDue (config_of journal.trace.config) seat.node.me views (input_of input) (Plans plan)
 due_in seat journal stood views input plan led agrees due =
-    subst (λ (c : Config). IsDue c seat.node.me views (input_of input) (Plans plan)) (config_in seat journal stood led agrees) due
+    subst (λ (c : AgreementConfig). IsDue c seat.node.me views (input_of input) (Plans plan)) (config_in seat journal stood led agrees) due
 
-keeps_in : {S : Type 0} (seat : RunningSeat S) (journal : Journaled) (stood : Seat) (views : Views) (input : SeatInput) (last : Record) → IsLedTo seat stood → Agrees seat journal
+keeps_in : {S : Type 0} (seat : RunningSeat S) (journal : Journaled) (stood : UpOrDown) (views : Views) (input : SeatInput) (last : Record) → IsLedTo seat stood → Agrees seat journal
     → InputKeeps seat.node.config seat.node.me views (input_of input) (Some last) → InputKeeps (config_of journal.trace.config) seat.node.me views (input_of input) (Some last)
 keeps_in seat journal stood views input last led agrees keeps =
-    subst (λ (c : Config). InputKeeps c seat.node.me views (input_of input) (Some last)) (config_in seat journal stood led agrees) keeps
+    subst (λ (c : AgreementConfig). InputKeeps c seat.node.me views (input_of input) (Some last)) (config_in seat journal stood led agrees) keeps
 
 -- the node did what is due, and these messages go out
-pub record Done {S : Type 0} (old : RunningSeat S) (node : SeatState S) (input : SeatInput) (sends : List Message) : Type 0 where
+pub record Done {S : Type 0} (old : RunningSeat S) (node : StoredNodeState S) (input : SeatInput) (sends : List Message) : Type 0 where
   pub views : Views
   pub led : IsLedTo old (IsUp views)
   pub plan : Plan
@@ -141,7 +141,7 @@ pub record Done {S : Type 0} (old : RunningSeat S) (node : SeatState S) (input :
   pub me_is : node.me ≡ old.node.me
   pub config_is : node.config ≡ old.node.config
 
-pub done_of : {S : Type 0} (old : RunningSeat S) (node : SeatState S) (input : SeatInput) (planned : Planned) (sends : List Message) → (was : WasUp old)
+pub done_of : {S : Type 0} (old : RunningSeat S) (node : StoredNodeState S) (input : SeatInput) (planned : Planned) (sends : List Message) → (was : WasUp old)
     → IsDoneFor old.node node was.views (input_of input) planned → sends ≡ sent_by planned → Done old node input sends
 done_of old node input planned sends was done same = record {
   views = was.views;
@@ -155,7 +155,7 @@ done_of old node input planned sends was done same = record {
   config_is = done.config_is;
 }
 
-pub next_of_done : {S : Type 0} (old : RunningSeat S) (node : SeatState S) (before : Journaled) (input : SeatInput) (sends : List Message) → Agrees old before → IsSentIn before.trace.sent input
+pub next_of_done : {S : Type 0} (old : RunningSeat S) (node : StoredNodeState S) (before : Journaled) (input : SeatInput) (sends : List Message) → Agrees old before → IsSentIn before.trace.sent input
     → (done : Done old node input sends)
     → IsNext before (done_step old.node.me input (length before.trace.sent) (length sends)) sends false (IsUp done.views) (IsUp done.plan.after)
 next_of_done old node before input sends agrees sent done =
@@ -164,13 +164,13 @@ next_of_done old node before input sends agrees sent done =
     (next_done before me input done.views done.plan (member_in old before (IsUp done.views) done.led agrees) (led_in old before (IsUp done.views) done.led agrees)
     (due_in old before (IsUp done.views) done.views input done.plan done.led agrees done.due) sent)
 
-pub put_none : {S : Type 0} (old : RunningSeat S) (node : SeatState S) (input : SeatInput) (sends : List Message) → Done old node input sends → (text : List ℕ) → input ≡ Put text → sends ≡ []
+pub put_none : {S : Type 0} (old : RunningSeat S) (node : StoredNodeState S) (input : SeatInput) (sends : List Message) → Done old node input sends → (text : List ℕ) → input ≡ Put text → sends ≡ []
 put_none old node input sends done text is =
     sym done.sends_are
     ∙ put_sends_none old.node.config old.node.me done.views text done.plan
     (subst (λ (i : SeatInput). IsDue old.node.config old.node.me done.views (input_of i) (Plans done.plan)) is done.due)
 
-pub leaves_done : {S : Type 0} (old new : RunningSeat S) (node : SeatState S) (before after : Journaled) (input : SeatInput) (sends : List Message) → Agrees old before → IsSentIn before.trace.sent input
+pub leaves_done : {S : Type 0} (old new : RunningSeat S) (node : StoredNodeState S) (before after : Journaled) (input : SeatInput) (sends : List Message) → Agrees old before → IsSentIn before.trace.sent input
     → (done : Done old node input sends) → HasMore old new node (done_entry old.node.me input (length before.trace.sent) sends)
     → HasEntry before (done_step old.node.me input (length before.trace.sent) (length sends)) sends false after
     → EntersOwn before (done_step old.node.me input (length before.trace.sent) (length sends)) sends false after → Leaves new after (IsUp done.plan.after)
@@ -185,7 +185,7 @@ leaves_done old new node before after input sends agrees sent done has entered e
 
 -- ---- a node that goes down in the midst
 
-pub record Broken {S : Type 0} (old : RunningSeat S) (node : SeatState S) (input : SeatInput) : Type 0 where
+pub record Broken {S : Type 0} (old : RunningSeat S) (node : StoredNodeState S) (input : SeatInput) : Type 0 where
   pub views : Views
   pub led : IsLedTo old (IsUp views)
   pub last : Record
@@ -197,7 +197,7 @@ pub record Broken {S : Type 0} (old : RunningSeat S) (node : SeatState S) (input
   pub me_is : node.me ≡ old.node.me
   pub config_is : node.config ≡ old.node.config
 
-pub broken_of : {S : Type 0} (old : RunningSeat S) (node : SeatState S) (input : SeatInput) (planned : Planned) → (was : WasUp old)
+pub broken_of : {S : Type 0} (old : RunningSeat S) (node : StoredNodeState S) (input : SeatInput) (planned : Planned) → (was : WasUp old)
     → IsBrokenOff old.node node was.views (input_of input) planned → Broken old node input
 broken_of old node input planned was broken = record {
   views = was.views;
@@ -212,14 +212,14 @@ broken_of old node input planned was broken = record {
   config_is = broken.config_is;
 }
 
-pub next_of_cut : {S : Type 0} (old : RunningSeat S) (node : SeatState S) (before : Journaled) (input : SeatInput) (cut : Event) → Agrees old before → IsSentIn before.trace.sent input
+pub next_of_cut : {S : Type 0} (old : RunningSeat S) (node : StoredNodeState S) (before : Journaled) (input : SeatInput) (cut : Event) → Agrees old before → IsSentIn before.trace.sent input
     → IsCutAt old.node.me input cut → (broken : Broken old node input)
     → IsNext before (cut_step cut) [] false (IsUp broken.views) (following.IsDown broken.views.records (Some broken.last))
 next_of_cut old node before input cut agrees sent is broken =
     next_cut before old.node.me input cut broken.views broken.last is (member_in old before (IsUp broken.views) broken.led agrees) (led_in old before (IsUp broken.views) broken.led agrees)
     (keeps_in old before (IsUp broken.views) broken.views input broken.last broken.led agrees broken.keeps) sent
 
-pub leaves_cut : {S : Type 0} (old new : RunningSeat S) (node : SeatState S) (before after : Journaled) (input : SeatInput) (cut : Event) → Agrees old before → IsSentIn before.trace.sent input
+pub leaves_cut : {S : Type 0} (old new : RunningSeat S) (node : StoredNodeState S) (before after : Journaled) (input : SeatInput) (cut : Event) → Agrees old before → IsSentIn before.trace.sent input
     → IsCutAt old.node.me input cut → (broken : Broken old node input) → HasMore old new node (cut_entry cut input) → HasEntry before (cut_step cut) [] false after
     → EntersOwn before (cut_step cut) [] false after → Leaves new after (following.IsDown broken.views.records (Some broken.last))
 leaves_cut old new node before after input cut agrees sent is broken has entered enters =
@@ -247,13 +247,13 @@ down_recovered kept records doubted due was same (inr is) none =
     ap (λ (d : Option Record). with_due was kept d) is ∙ ap (λ (rs : List Record). with_due was rs due) same
 
 -- the records that it has back are those that it has by its own entries
-pub recovered_are : {S : Type 0} (old : SeatState S) (stood : Seat) (was : Bool) → StandsSo old stood → (old.doubted ≡ None → was ≡ false)
+pub recovered_are : {S : Type 0} (old : StoredNodeState S) (stood : UpOrDown) (was : Bool) → StandsSo old stood → (old.doubted ≡ None → was ≡ false)
     → with_due was old.records old.doubted ≡ recovered_in was stood
 recovered_are old (IsUp views) was stands none =
     ap (λ (d : Option Record). with_due was old.records d) stands.certain ∙ (with_none was old.records ∙ stands.kept)
 recovered_are old (following.IsDown records due) was stands none = down_recovered old.records records old.doubted due was stands.kept stands.doubt none
 
-pub leaves_restart : {S : Type 0} (old new : RunningSeat S) (node : SeatState S) (before after : Journaled) (was : Bool) (stood : Seat) → Agrees old before → IsLedTo old stood
+pub leaves_restart : {S : Type 0} (old new : RunningSeat S) (node : StoredNodeState S) (before after : Journaled) (was : Bool) (stood : UpOrDown) → Agrees old before → IsLedTo old stood
     → StandsUp node (started_with (with_due was old.node.records old.node.doubted)) → (old.node.doubted ≡ None → was ≡ false) → IsPlaced node → node.me ≡ old.node.me → node.config ≡ old.node.config
     → HasMore old new node (restart_entry old.node.me was) → HasEntry before (restart_step old.node.me) [] was after
     → EntersOwn before (restart_step old.node.me) [] was after → Leaves new after (IsUp (started_with (recovered_in was stood)))

@@ -10,7 +10,7 @@ use Rattle.stored_nodes.specs.Kept.{CountsRecall}
 use Rattle.journal.specs.parts.traces.specs.declared.step.Step.{Step}
 use Rattle.journal.specs.parts.traces.specs.declared.config.Config.{Config}
 use Rattle.journal.specs.declared.receipt.Receipt.{Receipt}
-use Rattle.journal.specs.parts.histories.specs.Owning.{Entry}
+use Rattle.journal.specs.parts.histories.specs.Owning.{OwnEntry}
 use Rattle.journal.specs.Recalled.{held_at}
 use Rattle.journal.specs.Journaled.{Journaled, HasEntry, TellsSame}
 use Rattle.seats.specs.declared.fault.SeatFault.{SeatFault}
@@ -31,7 +31,7 @@ same_journal journal = record { start_is = refl; trace = record { config_is = re
 
 tell_as : {S : Type 0} (seat : RunningSeat S) (before mid : Journaled) → TellsSame before mid → CanTell seat before → CanTell seat mid
 tell_as seat before mid same (inl both) = inl (both.0, subst (λ (b : Bool). IsTrue b) (sym same.whole_is) both.1)
-tell_as seat before mid same (inr both) = inr (both.0, subst (λ (log : Option (List Entry)). IsSome log) (sym same.log_is) both.1)
+tell_as seat before mid same (inr both) = inr (both.0, subst (λ (log : Option (List OwnEntry)). IsSome log) (sym same.log_is) both.1)
 
 pub open_as : {S : Type 0} (seat : RunningSeat S) (before mid : Journaled) → TellsSame before mid → IsOpen seat before → IsOpen seat mid
 open_as seat before mid same may = (

@@ -7,7 +7,7 @@ use Rattle.journal.specs.parts.histories.specs.Following.{IsUp}
 use Rattle.node_core.specs.declared.plan.Planned.{Planned}
 use Rattle.journal.specs.parts.node_events.specs.declared.event_result.Reason.{Reason}
 use Rattle.journal.specs.parts.node_events.specs.declared.event_result.Reason.TheVariants as reason
-use Rattle.stored_nodes.specs.State.{SeatState}
+use Rattle.stored_nodes.specs.State.{StoredNodeState}
 use Rattle.stored_nodes.specs.Parts.{PlanAnswers, RefusesAs, StandsStill, IsPlannedFor}
 use Rattle.seats.specs.declared.fault.SeatFault.{SeatFault}
 use Rattle.seats.specs.declared.fault.SeatFault.TheVariants as fault
@@ -33,7 +33,7 @@ refuses : {S : Type 0} (old new : RunningSeat S) (input : SeatInput) (why : Refu
 refuses old new input why told is refused =
     subst (λ (t : SeatFault). PrepareGives old new input (Err t)) (sym is) (none_is_some old.node.node refused.0, refused.1)
 
-by_reason : {S : Type 0} (old new : RunningSeat S) (node : SeatState S) (input : SeatInput) (why : Reason) (told : SeatFault) → IsFaultFor why told
+by_reason : {S : Type 0} (old new : RunningSeat S) (node : StoredNodeState S) (input : SeatInput) (why : Reason) (told : SeatFault) → IsFaultFor why told
     → PlanAnswers old.node node (input_of input) (Err why) → PrepareGives old new input (Err told)
 by_reason old new node input reason.OutOfRange told is answers = refuses old new input refusal.OutOfRange told is answers
 by_reason old new node input reason.SlotsSpent told is answers = refuses old new input refusal.SlotsSpent told is answers
@@ -43,13 +43,13 @@ by_reason old new node input reason.Down told is answers = subst (λ (t : SeatFa
 by_reason old new node input reason.NotSent told is answers = absurd answers
 
 -- what the node refuses, or that it is down
-pub refused_gives : {S : Type 0} (old new : RunningSeat S) (node : SeatState S) (input : SeatInput) (copy : Input) (why : Reason) (told : SeatFault) → copy ≡ input_of input → IsFaultFor why told
+pub refused_gives : {S : Type 0} (old new : RunningSeat S) (node : StoredNodeState S) (input : SeatInput) (copy : Input) (why : Reason) (told : SeatFault) → copy ≡ input_of input → IsFaultFor why told
     → PlanAnswers old.node node copy (Err why) → PrepareGives old new input (Err told)
 refused_gives {S = S} old new node input copy why told same is answers =
     by_reason old new node input why told is (subst (λ (i : Input). PlanAnswers old.node node i (Err why)) same answers)
 
 -- what is planned
-pub prepared_gives : {S : Type 0} (old : RunningSeat S) (node : SeatState S) (input : SeatInput) (copy : Input) (plan : Planned) → copy ≡ input_of input → IsLed old → StandsStill old.node node
+pub prepared_gives : {S : Type 0} (old : RunningSeat S) (node : StoredNodeState S) (input : SeatInput) (copy : Input) (plan : Planned) → copy ≡ input_of input → IsLed old → StandsStill old.node node
     → PlanAnswers old.node node copy (Ok plan) → IsPreparedFor (record { config = old.config; start = old.start; node = node; own = old.own; keeps = old.keeps; known = old.known }) (record { input = input; plan = plan })
 prepared_gives old node input copy plan same led still answers =
     let was = was_up old led (none_is_some old.node.node answers.0) in

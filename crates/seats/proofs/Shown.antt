@@ -4,9 +4,9 @@ use Rattle.std.proofs.lemmas.Bool.{eq-eqb}
 use Rattle.journal.specs.parts.ballots.specs.declared.message.Message.{Message}
 use Rattle.journal.specs.parts.ballots.specs.declared.value.Value.{Value}
 use Rattle.journal.specs.parts.ballots.specs.declared.record.Record.{Record}
-use Rattle.journal.specs.parts.agreement_rules.specs.Views.{Config, Views, HasPrefix}
+use Rattle.journal.specs.parts.agreement_rules.specs.Views.{AgreementConfig, Views, HasPrefix}
 use Rattle.journal.specs.parts.histories.specs.History.{Step, History}
-use Rattle.journal.specs.parts.histories.specs.Following.{Seat, IsUp, ReachesFrom, with_seat}
+use Rattle.journal.specs.parts.histories.specs.Following.{UpOrDown, IsUp, ReachesFrom, with_seat}
 use Rattle.journal.specs.parts.histories.specs.Following as following
 use Rattle.journal.specs.parts.histories.specs.Owning.{own, OwnReaches}
 use Rattle.journal.specs.parts.safe_histories.specs.Learning.{Runs, HasLearnedPrefix}
@@ -21,26 +21,26 @@ use Rattle.seats.proofs.Leading.{member_in, config_in, led_in}
 -- ---- the laws that are cited
 
 abbrev pub OwnDecides : Type 0
-OwnDecides = (config : Config) (start : ℕ → Seat) (sent : List Message) (steps : List Step) (recovered : List Bool) (seats : ℕ → Seat) (node : ℕ) (seat : Seat) → node < config.members
+OwnDecides = (config : AgreementConfig) (start : ℕ → UpOrDown) (sent : List Message) (steps : List Step) (recovered : List Bool) (seats : ℕ → UpOrDown) (node : ℕ) (seat : UpOrDown) → node < config.members
     → ReachesFrom config start sent steps recovered seats → OwnReaches config (start node) (own node sent steps recovered) seat
     → ReachesFrom config start sent steps recovered (with_seat seats node seat)
 
 abbrev pub UpIsShown : Type 0
-UpIsShown = (config : Config) (start seats : ℕ → Seat) (before tail : History) (recovered : List Bool) (node : ℕ) → Precedes config start before
+UpIsShown = (config : AgreementConfig) (start seats : ℕ → UpOrDown) (before tail : History) (recovered : List Bool) (node : ℕ) → Precedes config start before
     → ReachesFrom config start tail.sent tail.steps recovered seats → node < config.members → ((views : Views) × (seats node ≡ IsUp views)) ↔ Runs node (joined before tail).steps
 
 abbrev pub PrefixIsShown : Type 0
-PrefixIsShown = (config : Config) (start seats : ℕ → Seat) (before tail : History) (recovered : List Bool) (node : ℕ) (views : Views) (values : List Value) → Precedes config start before
+PrefixIsShown = (config : AgreementConfig) (start seats : ℕ → UpOrDown) (before tail : History) (recovered : List Bool) (node : ℕ) (views : Views) (values : List Value) → Precedes config start before
     → ReachesFrom config start tail.sent tail.steps recovered seats → node < config.members → seats node ≡ IsUp views
     → HasPrefix config.members views.learner_calls values ↔ HasLearnedPrefix config.members (joined before tail).sent (joined before tail).steps node values
 
 -- ---- the node in the history
 
-own_seat : (seats : ℕ → Seat) (node : ℕ) (seat : Seat) → with_seat seats node seat node ≡ seat
+own_seat : (seats : ℕ → UpOrDown) (node : ℕ) (seat : UpOrDown) → with_seat seats node seat node ≡ seat
 own_seat seats node seat = ap (λ (b : Bool). if b then seat else seats node) (eq-eqb node node refl)
 
 -- the journal may as well have left it so
-reached : {S : Type 0} → OwnDecides → (seat : RunningSeat S) (journal : Journaled) (stood : Seat) → (followed : HasFollowed journal) → IsLedTo seat stood → Agrees seat journal
+reached : {S : Type 0} → OwnDecides → (seat : RunningSeat S) (journal : Journaled) (stood : UpOrDown) → (followed : HasFollowed journal) → IsLedTo seat stood → Agrees seat journal
     → ReachesFrom (config_of journal.trace.config) (seats_in journal.start) journal.trace.sent (steps_of journal.trace.steps) journal.recovered (with_seat followed.0 seat.node.me stood)
 reached decides seat journal stood followed led agrees =
     decides (config_of journal.trace.config) (seats_in journal.start) journal.trace.sent (steps_of journal.trace.steps) journal.recovered followed.0 seat.node.me stood
@@ -52,7 +52,7 @@ none_is_some x is = cc
 down_is_up : (views : Views) (records : List Record) (due : Option Record) → following.IsDown records due ≡ IsUp views → ⊥
 down_is_up views records due is = cc
 
-up_shown : {S : Type 0} → OwnDecides → UpIsShown → (seat : RunningSeat S) (journal : Journaled) (stood : Seat) → HasFollowed journal → IsLedTo seat stood → Agrees seat journal
+up_shown : {S : Type 0} → OwnDecides → UpIsShown → (seat : RunningSeat S) (journal : Journaled) (stood : UpOrDown) → HasFollowed journal → IsLedTo seat stood → Agrees seat journal
     → (before : History) → Precedes (config_of journal.trace.config) (seats_in journal.start) before
     → ((views : Views) × (stood ≡ IsUp views)) ↔ Runs seat.node.me (joined before (history_of journal.trace)).steps
 up_shown decides shown seat journal stood followed led agrees before precedes =
@@ -81,7 +81,7 @@ pub prefix_shown : {S : Type 0} → OwnDecides → PrefixIsShown → (seat : Run
     → HasPrefix seat.node.config.members views.learner_calls values
     ↔ HasLearnedPrefix seat.node.config.members (joined before (history_of journal.trace)).sent (joined before (history_of journal.trace)).steps seat.node.me values
 prefix_shown decides shown seat journal views values followed led agrees before precedes =
-    subst (λ (c : Config). HasPrefix c.members views.learner_calls values
+    subst (λ (c : AgreementConfig). HasPrefix c.members views.learner_calls values
     ↔ HasLearnedPrefix c.members (joined before (history_of journal.trace)).sent (joined before (history_of journal.trace)).steps seat.node.me values)
     (sym (config_in seat journal (IsUp views) led agrees))
     (shown (config_of journal.trace.config) (seats_in journal.start) (with_seat followed.0 seat.node.me (IsUp views)) before (history_of journal.trace) journal.recovered seat.node.me views values precedes

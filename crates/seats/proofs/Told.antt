@@ -3,7 +3,7 @@ use Rattle.std.proofs.Common.{◌≡◌, inl, inr, ℕ, Option, None, Some, List
 use Rattle.std.specs.Option.{option_map}
 use Rattle.journal.specs.parts.agreement.specs.declared.refusal.Refusal.{Refusal}
 use Rattle.journal.specs.parts.agreement.specs.declared.refusal.Refusal.TheVariants as refusal
-use Rattle.journal.specs.parts.agreement_rules.specs.Views.{Config, Views}
+use Rattle.journal.specs.parts.agreement_rules.specs.Views.{AgreementConfig, Views}
 use Rattle.journal.specs.parts.agreement_rules.specs.Due as due
 use Rattle.journal.specs.parts.table_types.specs.Uploads.{Upload}
 use Rattle.journal.specs.parts.table_types.specs.Tables.{Version, version_of}
@@ -77,4 +77,4 @@ pub of_its_tables : {S : Type 0} (seat : RunningSeat S) (node : NodeState) (Have
     → ((views : Views) (uploads : List Upload) → NodeHas node views → HasUploads node.agreement.config.members views.learner_calls uploads → Have uploads) → OfItsTables seat Have
 of_its_tables seat node Have is have views uploads up of =
     let has = node_has seat node views is up in
-    have views uploads has.0 (subst (λ (c : Config). HasUploads c.members views.learner_calls uploads) has.1 of)
+    have views uploads has.0 (subst (λ (c : AgreementConfig). HasUploads c.members views.learner_calls uploads) has.1 of)

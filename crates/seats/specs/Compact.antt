@@ -3,7 +3,7 @@ use Rattle.std.specs.Prelude.{◌≡◌, ℕ, Bool, false, Option, None, Some, L
 use Rattle.journal.specs.parts.ballots.specs.declared.message.Message.{Message}
 use Rattle.journal.specs.parts.histories.specs.Event as told
 use Rattle.journal.specs.parts.histories.specs.EventResult.{EventResult, Sent, Done}
-use Rattle.journal.specs.parts.histories.specs.Owning.{Entry}
+use Rattle.journal.specs.parts.histories.specs.Owning.{OwnEntry}
 use Rattle.journal.specs.parts.node_events.specs.declared.event.Event.TheVariants as event
 use Rattle.seats.specs.declared.compact_entry.CompactStep.{CompactStep}
 use Rattle.seats.specs.declared.compact_entry.CompactStep.TheVariants.{Put, Tick, Deliver, TickCut, DeliverCut, Restart}
@@ -11,7 +11,7 @@ use Rattle.seats.specs.declared.input.SeatInput.TheVariants as input
 use Rattle.seats.specs.Entries.{done_entry, cut_entry, restart_entry}
 
 -- the entry of this node of what it did
-abbrev pub entry_in : ℕ → CompactStep → Entry
+abbrev pub entry_in : ℕ → CompactStep → OwnEntry
 entry_in me (Put upload sends) = done_entry me (input.Put upload) 0 sends.items
 entry_in me (Tick left first sends) = done_entry me (input.Tick left) first sends.items
 entry_in me (Deliver number message first sends) = done_entry me (input.Deliver number message) first sends.items
@@ -41,5 +41,5 @@ Holds me (told.Info node table) given recovered handed sends = ⊥
 Holds me (told.Outcome node text) given recovered handed sends = ⊥
 
 -- the entry is of something that this node did
-abbrev pub IsDone : ℕ → Entry → Type 0
+abbrev pub IsDone : ℕ → OwnEntry → Type 0
 IsDone me entry = Holds me entry.step.event entry.step.result entry.recovered entry.handed entry.sends

@@ -1,7 +1,7 @@
 -- What is entered of an input: the step of the journal, and the node's own entry of it.
 use Rattle.std.specs.Prelude.{◌≡◌, ℕ, Bool, false, None, List, [], length}
 use Rattle.journal.specs.parts.ballots.specs.declared.message.Message.{Message}
-use Rattle.journal.specs.parts.histories.specs.Owning.{Entry}
+use Rattle.journal.specs.parts.histories.specs.Owning.{OwnEntry}
 use Rattle.journal.specs.parts.node_events.specs.declared.event.Event.{Event}
 use Rattle.journal.specs.parts.node_events.specs.declared.event.Event.TheVariants as restart
 use Rattle.journal.specs.parts.node_events.specs.declared.event_result.EventResult.TheVariants as results
@@ -15,7 +15,7 @@ use Rattle.seats.specs.Inputs.{event_at, given_for, handed_by}
 abbrev pub done_step : ℕ → SeatInput → (first count : ℕ) → Step
 done_step me input first count = record { event = event_at me input; result = given_for input first count }
 
-abbrev pub done_entry : ℕ → SeatInput → ℕ → List Message → Entry
+abbrev pub done_entry : ℕ → SeatInput → ℕ → List Message → OwnEntry
 done_entry me input first sends = record {
   step = step_of (done_step me input first (length sends));
   recovered = false;
@@ -27,14 +27,14 @@ done_entry me input first sends = record {
 abbrev pub cut_step : Event → Step
 cut_step cut = record { event = cut; result = results.Done }
 
-abbrev pub cut_entry : Event → SeatInput → Entry
+abbrev pub cut_entry : Event → SeatInput → OwnEntry
 cut_entry cut input = record { step = step_of (cut_step cut); recovered = false; handed = handed_by input; sends = [] }
 
 -- the node started again, and had back the record in doubt, or had not
 abbrev pub restart_step : ℕ → Step
 restart_step me = record { event = restart.Restart me; result = results.Done }
 
-abbrev pub restart_entry : ℕ → Bool → Entry
+abbrev pub restart_entry : ℕ → Bool → OwnEntry
 restart_entry me recovered = record { step = step_of (restart_step me); recovered = recovered; handed = None; sends = [] }
 
 -- there is a copy of the input's event for each place where it stands, and of the messages that go out

@@ -1,10 +1,10 @@
 -- What contracts see of the list of what a node did itself, which is held, or counted alone. That it may be counted is this
 -- service's own.
 use Rattle.std.specs.Prelude.{◌≡◌, ℕ, Bool, List, map}
-use Rattle.journal.specs.parts.histories.specs.Owning.{Entry}
+use Rattle.journal.specs.parts.histories.specs.Owning.{OwnEntry}
 
 pub record OwnList : Type 0 where
-  pub entries : List Entry
+  pub entries : List OwnEntry
   -- whether it is held
   pub keeps : Bool
   -- how many more entries it takes without memory
@@ -12,7 +12,7 @@ pub record OwnList : Type 0 where
 
 -- what is counted
 pub record Counting : Type 0 where
-  pub entries : List Entry
+  pub entries : List OwnEntry
   -- how many more entries it takes
   pub room : ℕ
 
@@ -22,5 +22,5 @@ pub record LastsAsBefore (old new : OwnList) : Type 0 where
   pub keeps_is : new.keeps ≡ old.keeps
 
 -- the entries that were counted
-abbrev pub entries_of : List (Entry × Bool) → List Entry
+abbrev pub entries_of : List (OwnEntry × Bool) → List OwnEntry
 entries_of counted = map (λ entry. entry.0) counted

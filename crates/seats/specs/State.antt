@@ -5,10 +5,10 @@ use Rattle.journal.specs.parts.ballots.specs.declared.record.Record.{Record}
 use Rattle.journal.specs.parts.agreement_rules.specs.Views.{Views}
 use Rattle.journal.specs.parts.table_types.specs.Uploads.{Upload}
 use Rattle.journal.specs.parts.histories.specs.Texts.{HasUploads}
-use Rattle.journal.specs.parts.histories.specs.Following.{Seat, IsUp, IsDown}
-use Rattle.journal.specs.parts.histories.specs.Owning.{Entry, OwnReaches}
+use Rattle.journal.specs.parts.histories.specs.Following.{UpOrDown, IsUp, IsDown}
+use Rattle.journal.specs.parts.histories.specs.Owning.{OwnEntry, OwnReaches}
 use Rattle.node_core.specs.State.{NodeState, NodeHas}
-use Rattle.stored_nodes.specs.State.{SeatState, IsPlaced, StandsUp}
+use Rattle.stored_nodes.specs.State.{StoredNodeState, IsPlaced, StandsUp}
 use Rattle.journal.specs.parts.traces.specs.declared.config.Config.{Config}
 use Rattle.journal.specs.parts.traces.specs.Told.{config_of}
 use Rattle.journal.specs.Journaled.{seats_in, Journaled, own_in}
@@ -16,29 +16,29 @@ use Rattle.journal.specs.Journaled.{seats_in, Journaled, own_in}
 pub record RunningSeat (S : Type 0) : Type 0 where
   pub config : Config
   -- how it was where its own entries begin
-  pub start : Seat
+  pub start : UpOrDown
   -- the node with its store
-  pub node : SeatState S
+  pub node : StoredNodeState S
   -- what it did, by its own entries
-  pub own : List Entry
+  pub own : List OwnEntry
   -- whether it holds these
   pub keeps : Bool
   -- the log of all nodes' own entries, where it knows it
-  pub known : Option (List Entry)
+  pub known : Option (List OwnEntry)
 
 -- It is down with these records, without the one that was due where it went down; of this one nobody knows whether its
 -- store has it, or the store has it not.
-pub record StandsDownWith {S : Type 0} (state : SeatState S) (records : List Record) (due : Option Record) : Type 0 where
+pub record StandsDownWith {S : Type 0} (state : StoredNodeState S) (records : List Record) (due : Option Record) : Type 0 where
   pub down : state.node ≡ None
   pub kept : state.records ≡ records
   pub doubt : (state.doubted ≡ None) ⊎ (state.doubted ≡ due)
 
-abbrev pub StandsSo : {S : Type 0} → SeatState S → Seat → Type 0
+abbrev pub StandsSo : {S : Type 0} → StoredNodeState S → UpOrDown → Type 0
 StandsSo state (IsUp views) = StandsUp state views
 StandsSo state (IsDown records due) = StandsDownWith state records due
 
 -- its own entries leave it so, and so it stands
-pub record IsLedTo {S : Type 0} (seat : RunningSeat S) (stood : Seat) : Type 0 where
+pub record IsLedTo {S : Type 0} (seat : RunningSeat S) (stood : UpOrDown) : Type 0 where
   pub config_is : seat.node.config ≡ config_of seat.config
   pub placed : IsPlaced seat.node
   pub led : OwnReaches (config_of seat.config) seat.start seat.own stood
@@ -53,10 +53,10 @@ pub record IsLedNode {S : Type 0} (seat : RunningSeat S) (node : NodeState) : Ty
   pub are : HasUploads node.agreement.config.members views.learner_calls uploads
 
 abbrev pub IsLed : {S : Type 0} → RunningSeat S → Type 0
-IsLed seat = (stood : Seat) × IsLedTo seat stood
+IsLed seat = (stood : UpOrDown) × IsLedTo seat stood
 
 -- both have one configuration, the node starts so, and the journal has just these own entries of it
-abbrev pub HasOwn : Config → ℕ → Seat → List Entry → Journaled → Type 0
+abbrev pub HasOwn : Config → ℕ → UpOrDown → List OwnEntry → Journaled → Type 0
 HasOwn config me start own journal =
     (journal.trace.config ≡ config) × (own_in me journal ≡ own) × (seats_in journal.start me ≡ start)
 

@@ -11,8 +11,8 @@ use Rattle.journal.specs.parts.table_types.specs.Uploads.{Upload}
 use Rattle.journal.specs.parts.table_types.specs.Tables.{version_of}
 use Rattle.journal.specs.parts.histories.specs.Texts.{HasUploads}
 use Rattle.journal.specs.parts.histories.specs.Due.{IsDue, InputKeeps}
-use Rattle.journal.specs.parts.histories.specs.Following.{Seat, IsUp, with_due, GetGives, OutcomeGives}
-use Rattle.journal.specs.parts.histories.specs.Owning.{Entry}
+use Rattle.journal.specs.parts.histories.specs.Following.{UpOrDown, IsUp, with_due, GetGives, OutcomeGives}
+use Rattle.journal.specs.parts.histories.specs.Owning.{OwnEntry}
 use Rattle.node_core.specs.State.{NodeState, NodeHas}
 use Rattle.node_core.specs.Plans.{IsRefused}
 use Rattle.journal.specs.parts.node_events.specs.declared.event.Event.{Event}
@@ -52,7 +52,7 @@ pub record StandsSame {S : Type 0} (old new : RunningSeat S) : Type 0 where
   pub known_is : new.known ≡ old.known
   pub records_are : new.node.records ≡ old.node.records
   pub doubted_is : new.node.doubted ≡ old.node.doubted
-  pub stands : (seat : Seat) → Stands old.node seat → Stands new.node seat
+  pub stands : (seat : UpOrDown) → Stands old.node seat → Stands new.node seat
 
 -- the count of the store's faults, by the answer of a call
 abbrev pub Counts : {T : Type 0} → (tells : Bool) → Result T SeatFault → (old new : ℕ) → Type 0
@@ -173,7 +173,7 @@ Admits seat journal input (Err fault.Lost) = ⊥
 -- what another node did itself, the journal has still
 abbrev pub OthersAgree : ℕ → (before after : Journaled) → Type 0
 OthersAgree me before after =
-    (config : Config) (other : ℕ) (start : Seat) (own : List Entry) → other ≢ me → other < config.members
+    (config : Config) (other : ℕ) (start : UpOrDown) (own : List OwnEntry) → other ≢ me → other < config.members
     → HasOwn config other start own before → HasOwn config other start own after
 
 -- the entry is told by the receipt

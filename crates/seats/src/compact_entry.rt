@@ -56,10 +56,10 @@ pub(crate) struct CompactEntry {
 }
 
 impl Model for CompactEntry {
-    ghost use Rattle.journal.specs.parts.histories.specs.Owning.{Entry};
+    ghost use Rattle.journal.specs.parts.histories.specs.Owning.{OwnEntry};
     ghost use Rattle.seats.specs.Compact.{entry_in};
 
-    ghost Value = { Entry };
+    ghost Value = { OwnEntry };
 
     ghost view = { λ e. entry_in e.me e.step };
 }

@@ -3,7 +3,7 @@
 ghost use Rattle.std.specs.Prelude.{◌≡◌, List, [], ◌++◌};
 ghost use Rattle.journal.specs.parts.ballots.specs.declared.record.Record.{Record as Held};
 ghost use Rattle.journal.specs.parts.agreement_rules.specs.Views.{Views};
-ghost use Rattle.journal.specs.parts.histories.specs.Following.{Seat as HistorySeat, IsUp, at_first};
+ghost use Rattle.journal.specs.parts.histories.specs.Following.{UpOrDown as HistorySeat, IsUp, at_first};
 ghost use Rattle.journal.specs.parts.histories.specs.Keeping.{AreKept};
 ghost use Rattle.journal.specs.parts.traces.specs.Told.{config_of};
 ghost use Rattle.journal.specs.Journaled.{Journaled, seats_in};

@@ -8,7 +8,7 @@ ghost use Rattle.journal.specs.parts.table_types.specs.Uploads.{Upload as Upload
 ghost use Rattle.journal.specs.parts.table_versions.specs.Values.{AreUploadsIn};
 ghost use Rattle.journal.specs.parts.table_versions.specs.State.{HasTaken};
 ghost use Rattle.journal.specs.parts.agreement_rules.specs.Views.{started_with, Views, HasPrefix};
-ghost use Rattle.journal.specs.parts.histories.specs.Following.{Seat as HistorySeat, IsUp, at_first};
+ghost use Rattle.journal.specs.parts.histories.specs.Following.{UpOrDown as HistorySeat, IsUp, at_first};
 ghost use Rattle.journal.specs.parts.safe_histories.specs.Learning.{Runs, HasLearnedPrefix};
 ghost use Rattle.stable_records.specs.declared.fault.StoreFault.TheVariants.{OutOfMemory};
 ghost use Rattle.stable_records.specs.Calls.{RaisesCount};

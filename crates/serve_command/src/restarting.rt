@@ -4,7 +4,7 @@ ghost use Rattle.std.specs.Prelude.{◌≡◌, [], length, IfOk, OnOk};
 ghost use Rattle.std.specs.List.{All};
 ghost use Rattle.chosen_records.specs.Chosen.{IsRecorded};
 ghost use Rattle.flight_service.specs.parts.traces.specs.Told.{config_of};
-ghost use Rattle.resumed_nodes.specs.Starting.{AreStarted, GoesOn, MayBeTold, records_of};
+ghost use Rattle.resumed_nodes.specs.Starting.{AreStarted, GoesOn, MayBeTold, records_at_nodes};
 ghost use Rattle.resumed_nodes.specs.Knowing.{KnowsAcknowledged, TellsAll};
 ghost use Rattle.serve_command.specs.Restarting.{AreAtStart};
 
@@ -123,8 +123,8 @@ fn chosen(
     requires { AreStarted agreed [] nodes.now.items }
     ensures all { IfOk result (λ told. length nodes.now.items ≡ agreed.members) }
     ensures may { IfOk result (λ told. All (MayBeTold agreed) told.items) }
-    ensures recorded { IfOk result (λ told. All (IsRecorded (records_of nodes.now.items)) told.items) }
-    ensures chosen { IfOk result (λ told. TellsAll agreed (records_of nodes.now.items) told.items) }
+    ensures recorded { IfOk result (λ told. All (IsRecorded (records_at_nodes nodes.now.items)) told.items) }
+    ensures chosen { IfOk result (λ told. TellsAll agreed (records_at_nodes nodes.now.items) told.items) }
 {
     if nodes.len() != usize::from(agreed.members().count()) {
         return Err(ServeFault::Members);
@@ -148,7 +148,7 @@ fn heard<R: Threads + Clock + Eprint + Sync>(
     requires started { AreStarted agreed [] nodes.items }
     requires may { All (MayBeTold agreed) told.now }
     ensures heard { IfOk result (λ heard. AreStarted agreed told.now heard.items) }
-    ensures records { IfOk result (λ heard. records_of heard.items ≡ records_of nodes.items) }
+    ensures records { IfOk result (λ heard. records_at_nodes heard.items ≡ records_at_nodes nodes.items) }
     ensures all { IfOk result (λ heard. length heard.items ≡ length nodes.items) }
 {
     let Ok(nodes) = hear_together(rt, alloc, agreed, nodes, told) else {
@@ -172,9 +172,9 @@ pub(crate) fn restart<R: Threads + Clock + Eprint + Sync>(
     stores: Vec<FileStore>,
 ) -> Result<(FileNodes, Vec<Message>), ServeFault>
     ensures started { IfOk result (λ found. AreStarted (config_of config.now) found.1.items found.0.items) }
-    ensures goes_on { IfOk result (λ found. GoesOn (config_of config.now) (records_of found.0.items) found.1.items) }
+    ensures goes_on { IfOk result (λ found. GoesOn (config_of config.now) (records_at_nodes found.0.items) found.1.items) }
     ensures knows { IfOk result (λ found.
-        KnowsAcknowledged (config_of config.now) (records_of found.0.items) found.1.items) }
+        KnowsAcknowledged (config_of config.now) (records_at_nodes found.0.items) found.1.items) }
 {
     members_go_on::<FileStore>();
     members_know_what_was_acknowledged::<FileStore>();

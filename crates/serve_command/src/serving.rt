@@ -5,7 +5,7 @@ ghost use Rattle.std.specs.Io.KnownBytes.{Appends, Keeps};
 ghost use Rattle.grpc_frames.specs.FrameFaults.{IsBeginning};
 ghost use Rattle.flight_service.specs.parts.traces.specs.Told.{config_of};
 ghost use Rattle.resumed_nodes.specs.Heard.{starts_of};
-ghost use Rattle.resumed_nodes.specs.Starting.{AreStarted, records_of};
+ghost use Rattle.resumed_nodes.specs.Starting.{AreStarted, records_at_nodes};
 ghost use Rattle.serve_command.specs.Addresses.{addresses_text};
 
 use crate::addresses::tell_addresses;
@@ -421,7 +421,7 @@ fn serve_three_again<
     log: Opened<OwnEntry>,
 ) -> Result<(), ServeFault>
     requires named { log ≡ J.book }
-    requires start { J.start ≡ starts_of (records_of old.items) told.items }
+    requires start { J.start ≡ starts_of (records_at_nodes old.items) told.items }
     requires stand { AreStarted (config_of config) told.items old.items }
     ensures all { OnOk result (Appends (W.contents w.old) (W.contents w.new) (addresses_text first_port 3)) }
     ensures part { OnErr result ((written : List ℕ) × IsBeginning written (addresses_text first_port 3)
@@ -466,7 +466,7 @@ fn serve_five_again<
     log: Opened<OwnEntry>,
 ) -> Result<(), ServeFault>
     requires named { log ≡ J.book }
-    requires start { J.start ≡ starts_of (records_of old.items) told.items }
+    requires start { J.start ≡ starts_of (records_at_nodes old.items) told.items }
     requires stand { AreStarted (config_of config) told.items old.items }
     ensures all { OnOk result (Appends (W.contents w.old) (W.contents w.new) (addresses_text first_port 5)) }
     ensures part { OnErr result ((written : List ℕ) × IsBeginning written (addresses_text first_port 5)

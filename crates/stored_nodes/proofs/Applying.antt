@@ -5,7 +5,7 @@ use Rattle.std.proofs.lemmas.Option.{slice_get_within, slice_get_cases}
 use Rattle.ballots.specs.declared.record.Record.{Record}
 use Rattle.ballots.specs.declared.message.Message.{Message}
 use Rattle.table_types.specs.Uploads.{Upload}
-use Rattle.agreement_rules.specs.Views.{Config, Views, started_with}
+use Rattle.agreement_rules.specs.Views.{AgreementConfig, Views, started_with}
 use Rattle.histories.specs.Texts.{HasUploads}
 use Rattle.agreement_rules.specs.Due.{Refuses, Plan, Plans, IsMessageOf}
 use Rattle.agreement_rules.specs.Due as due
@@ -13,7 +13,7 @@ use Rattle.histories.specs.Due.{Input, Put, Tick, Deliver, IsDue, InputKeeps}
 use Rattle.histories.specs.Event as event
 use Rattle.histories.specs.EventResult.{EventResult, count_of}
 use Rattle.histories.specs.EventResult as results
-use Rattle.histories.specs.Following.{Seat, IsUp, IsDown, recovered_in, with_due, reason_of, PutGives, SendsGives, InputGives, CutGives, Delivers, GetGivesIfAble, InfoGivesIfAble, QuestionGives, RestartGives}
+use Rattle.histories.specs.Following.{UpOrDown, IsUp, IsDown, recovered_in, with_due, reason_of, PutGives, SendsGives, InputGives, CutGives, Delivers, GetGivesIfAble, InfoGivesIfAble, QueryGives, RestartGives}
 use Rattle.table_versions.specs.Outcomes.{told as outcome_told}
 use Rattle.node_events.specs.declared.event_result.EventResult.{EventResult as Told}
 use Rattle.node_events.specs.declared.event_result.EventResult.TheVariants as told
@@ -29,7 +29,7 @@ use Rattle.node_core.specs.State.{NodeState, NodeHas}
 use Rattle.stored_nodes.specs.declared.fault.StoredNodeFault.{StoredNodeFault}
 use Rattle.stored_nodes.specs.declared.fault.StoredNodeFault.TheVariants as fault
 use Rattle.stored_nodes.specs.Kept.{HasKept}
-use Rattle.stored_nodes.specs.State.{SeatState, IsPlaced, StandsUp, Stands, Leaves, SendsFor, IsAsBefore, BreaksFor, UpBreaks, IsBroken}
+use Rattle.stored_nodes.specs.State.{StoredNodeState, IsPlaced, StandsUp, Stands, Leaves, SendsFor, IsAsBefore, BreaksFor, UpBreaks, IsBroken}
 use Rattle.stored_nodes.specs.Steps.{HandsMessage, KeepsAlone, StepAnswers, StepBreaks, UpAnswers, IsCut, HasNode, RestartApplies}
 use Rattle.stored_nodes.specs.Parts.{IsRecovered, IsUnchanged}
 use Rattle.stored_nodes.proofs.Keeping.{Taken as TakenKeepSome}
@@ -51,15 +51,15 @@ no_messages [] none = refl
 no_messages (m ∷ sends) none = absurd (cc)
 
 -- a put that is planned sends nothing
-put_sends_nothing : (config : Config) (me : ℕ) (views : Views) (text : List ℕ) (plan : Plan) → IsDue config me views (Put text) (Plans plan) → length plan.sends ≡ 0
+put_sends_nothing : (config : AgreementConfig) (me : ℕ) (views : Views) (text : List ℕ) (plan : Plan) → IsDue config me views (Put text) (Plans plan) → length plan.sends ≡ 0
 put_sends_nothing config me views text plan (inl due) = subst (λ (p : Plan). length p.sends ≡ 0) (sym due.1) refl
 put_sends_nothing config me views text plan (inr due) = subst (λ (p : Plan). length p.sends ≡ 0) (sym due.3) refl
 
 is_not_refused : (first count : ℕ) (why : results.Reason) (given : EventResult) → given ≡ results.Sent first count → given ≡ results.Refused why → ⊥
 is_not_refused first count why given sent refused = (let no : results.Sent first count ≡ results.Refused why = sym sent ∙ refused in cc)
 
-module _ {S : Type 0} (old new : SeatState S) (before after : List Message) (views : Views) (text : List ℕ) (given : EventResult) where
-  put_gives : (first count : ℕ) (left : Seat) → given ≡ results.Sent first count
+module _ {S : Type 0} (old new : StoredNodeState S) (before after : List Message) (views : Views) (text : List ℕ) (given : EventResult) where
+  put_gives : (first count : ℕ) (left : UpOrDown) → given ≡ results.Sent first count
       → InputGives old.config old.me views (Put text) (SendsGives after (length before) views) given left
       → count ≡ 0 × InputGives old.config old.me views (Put text) (PutGives views) results.Done left
   put_gives first count left sent (inl (Refuses refusal, due, gives)) = absurd (is_not_refused first count (reason_of refusal) given sent gives.0)
@@ -85,7 +85,7 @@ module _ {S : Type 0} (old new : SeatState S) (before after : List Message) (vie
         config_is = leaves.config_is;
       }
 
-  put_refuses : (left : Seat) → ((first count : ℕ) → given ≡ results.Sent first count → ⊥)
+  put_refuses : (left : UpOrDown) → ((first count : ℕ) → given ≡ results.Sent first count → ⊥)
       → InputGives old.config old.me views (Put text) (SendsGives after (length before) views) given left
       → InputGives old.config old.me views (Put text) (PutGives views) given left
   put_refuses left not (inl (Refuses refusal, due, gives)) = inl (Refuses refusal, due, gives)
@@ -108,17 +108,17 @@ module _ {S : Type 0} (old new : SeatState S) (before after : List Message) (vie
   }
 
 -- a put sends nothing, so it wants no memory for messages
-put_sends_none : (config : Config) (me : ℕ) (views : Views) (text : List ℕ) → SendsFor config me views (Put text) → ⊥
+put_sends_none : (config : AgreementConfig) (me : ℕ) (views : Views) (text : List ℕ) → SendsFor config me views (Put text) → ⊥
 put_sends_none config me views text (plan, due, some) = some (no_messages plan.sends (put_sends_nothing config me views text plan due))
 
 false_is_true : false ≡ true → ⊥
 false_is_true is = cc
 
 -- and it keeps no record, so no store fails in it
-put_keeps_none : (config : Config) (me : ℕ) (views : Views) (text : List ℕ) (left : Seat) → BreaksFor config me views (Put text) left → ⊥
+put_keeps_none : (config : AgreementConfig) (me : ℕ) (views : Views) (text : List ℕ) (left : UpOrDown) → BreaksFor config me views (Put text) left → ⊥
 put_keeps_none config me views text left (last, keeps, is) = none_is_some last (sym keeps)
 
-pub put_failed : {S : Type 0} (old new : SeatState S) (before after : List Message) (text : List ℕ) (why : StoredNodeFault)
+pub put_failed : {S : Type 0} (old new : StoredNodeState S) (before after : List Message) (text : List ℕ) (why : StoredNodeFault)
     → StepAnswers old new before after (Put text) (Err why) → UpAnswers old new before after (event.Put old.me text) (Err why)
 put_failed old new before after text fault.OutOfMemory step = λ views placed up.
     (let so = step views placed up in (so.0, put_sends_none old.config old.me views text so.1))
@@ -127,7 +127,7 @@ put_failed old new before after text (fault.Store why) step = λ views placed up
 put_failed old new before after text fault.Lost step = λ views placed up. absurd (step views placed up)
 
 -- an upload that is refused before it is copied
-pub put_not_handed : {S : Type 0} → Allows → (state : SeatState S) (before : List Message) (views : Views) (text : List ℕ) (why : Refusal) (given : EventResult) → IsPlaced state
+pub put_not_handed : {S : Type 0} → Allows → (state : StoredNodeState S) (before : List Message) (views : Views) (text : List ℕ) (why : Refusal) (given : EventResult) → IsPlaced state
     → (up : StandsUp state views) (node : NodeState) → state.node ≡ Some node → (NodeHas node views → IsRefused node views (Put text) why) → given ≡ results.Refused (reason_of (refusal_of why))
     → Leaves state state before before given (InputGives state.config state.me views (Put text) (PutGives views) given)
 put_not_handed allows state before views text why given placed up node here refused is =
@@ -141,11 +141,11 @@ put_not_handed allows state before views text why given placed up node here refu
 
 -- ---- a delivery
 
-abbrev pub Delivery : {S : Type 0} → SeatState S → List Message → ℕ → ℕ → Views → EventResult → Seat → Type 0
+abbrev pub Delivery : {S : Type 0} → StoredNodeState S → List Message → ℕ → ℕ → Views → EventResult → UpOrDown → Type 0
 Delivery old sent next number views given left =
     Delivers sent next number (λ m. InputGives old.config old.me views (Deliver m) (SendsGives sent next views)) views given left
 
-pub delivered : {S : Type 0} (old new : SeatState S) (before after : List Message) (views : Views) (number : ℕ) (m : Message) (given : EventResult)
+pub delivered : {S : Type 0} (old new : StoredNodeState S) (before after : List Message) (views : Views) (number : ℕ) (m : Message) (given : EventResult)
     → slice_get before number ≡ Some m
     → Leaves old new before after given (InputGives old.config old.me views (Deliver m) (SendsGives after (length before) views) given)
     → Leaves old new before after given (Delivery old after (length before) number views given)
@@ -167,7 +167,7 @@ delivered old new before after views number m given there leaves = record {
 }
 
 -- the store fails in an event
-broken : {S : Type 0} (old new : SeatState S) (views : Views) (input : Input) (before after : List Message) (e : event.Event)
+broken : {S : Type 0} (old new : StoredNodeState S) (views : Views) (input : Input) (before after : List Message) (e : event.Event)
     → (so : StepBreaks old new views input before after) → UpBreaks old.config before views e so.left → IsBroken old new (IsUp views) before after e
 broken old new views input before after e so breaks = record {
   left = so.left;
@@ -179,7 +179,7 @@ broken old new views input before after e so breaks = record {
   unsent = so.unsent;
 }
 
-pub delivery_answers : {S : Type 0} (old new : SeatState S) (before after : List Message) (number : ℕ) (m : Message) (answer : Result Told StoredNodeFault)
+pub delivery_answers : {S : Type 0} (old new : StoredNodeState S) (before after : List Message) (number : ℕ) (m : Message) (answer : Result Told StoredNodeFault)
     → slice_get before number ≡ Some m → StepAnswers old new before after (Deliver m) answer → UpAnswers old new before after (event.Deliver old.me number) answer
 delivery_answers old new before after number m (Ok given) there step =
     λ views placed up. delivered old new before after views number m (result_of given) there (step views placed up)
@@ -188,7 +188,7 @@ delivery_answers old new before after number m (Err (fault.Store why)) there ste
     (let so = step views placed up in broken old new views (Deliver m) before after (event.Deliver old.me number) so (m, there, so.breaks))
 delivery_answers old new before after number m (Err fault.Lost) there step = λ views placed up. absurd (step views placed up)
 
-pub tick_answers : {S : Type 0} (old new : SeatState S) (before after : List Message) (left : ℕ) (answer : Result Told StoredNodeFault)
+pub tick_answers : {S : Type 0} (old new : StoredNodeState S) (before after : List Message) (left : ℕ) (answer : Result Told StoredNodeFault)
     → StepAnswers old new before after (Tick left) answer → UpAnswers old new before after (event.Tick old.me left) answer
 tick_answers old new before after left (Ok given) step = λ views placed up. step views placed up
 tick_answers old new before after left (Err fault.OutOfMemory) step = λ views placed up. step views placed up
@@ -205,14 +205,14 @@ is_not_sent sent number none = elim (slice_get_cases sent number).1 as (λ _. le
 
 -- ---- as it was
 
-module _ {S : Type 0} (state : SeatState S) (before : List Message) (views : Views) (given : EventResult) (Gives : Seat → Type 0) where
+module _ {S : Type 0} (state : StoredNodeState S) (before : List Message) (views : Views) (given : EventResult) (Gives : UpOrDown → Type 0) where
   -- the node is as it was, and nothing goes out
   pub stays : IsPlaced state → StandsUp state views → count_of given ≡ 0 → Gives (IsUp views) → Leaves state state before before given Gives
   stays placed up none gives = quiet state state before given Gives (IsUp views) none gives up placed refl refl
 
 -- a message that the node is not handed
-module _ {S : Type 0} (state : SeatState S) (before : List Message) (views : Views) (number : ℕ) (placed : IsPlaced state) (up : StandsUp state views) (node : NodeState) (here : state.node ≡ Some node) where
-  of_seat : (P : Config → Type 0) → P node.agreement.config → P state.config
+module _ {S : Type 0} (state : StoredNodeState S) (before : List Message) (views : Views) (number : ℕ) (placed : IsPlaced state) (up : StandsUp state views) (node : NodeState) (here : state.node ≡ Some node) where
+  of_seat : (P : AgreementConfig → Type 0) → P node.agreement.config → P state.config
   of_seat P is = subst P (ap (λ (n : NodeState). n.agreement.config) (same_node state views up node here) ∙ up.config_is) is
 
   not_handed_gives : (why : ToldReason) → HandsMessage node.agreement.config before number (Err why)
@@ -234,7 +234,7 @@ module _ {S : Type 0} (state : SeatState S) (before : List Message) (views : Vie
 
 -- ---- a cut
 
-pub cut_behind : {S T : Type 0} (old new : SeatState S) (before : List Message) (views : Views) (input : Input) (result : Result T StoreFault) → IsPlaced old → StandsUp old views
+pub cut_behind : {S T : Type 0} (old new : StoredNodeState S) (before : List Message) (views : Views) (input : Input) (result : Result T StoreFault) → IsPlaced old → StandsUp old views
     → IsCut old new views input result → Leaves old new before before results.Done (CutGives old.config old.me views input results.Done)
 cut_behind old new before views input result placed up cut =
     let left = doubted_down old new views input old.records cut.due placed up cut.keeps cut.down cut.me_is cut.config_is
@@ -243,7 +243,7 @@ cut_behind old new before views input result placed up cut =
     (refl, (cut.due, cut.keeps, refl)) left.0 left.1 cut.me_is cut.config_is
 
 -- the record was kept alone, or not, and the node is gone
-pub kept_and_down : {S T : Type 0} (old new : SeatState S) (views : Views) (input : Input) (result : Result T StoreFault) (node : NodeState) → (up : StandsUp old views) → old.node ≡ Some node
+pub kept_and_down : {S T : Type 0} (old new : StoredNodeState S) (views : Views) (input : Input) (result : Result T StoreFault) (node : NodeState) → (up : StandsUp old views) → old.node ≡ Some node
     → (NodeHas node views → KeepsAlone node views input old.records new.records new.doubted result) → new.node ≡ None → new.me ≡ old.me → new.config ≡ old.config
     → IsCut old new views input result
 kept_and_down old new views input result node up here gives down me config =
@@ -261,11 +261,11 @@ kept_and_down old new views input result node up here gives down me config =
     }
 
 -- a delivery that is cut off
-abbrev pub CutDelivery : {S : Type 0} → SeatState S → List Message → ℕ → Views → EventResult → Seat → Type 0
+abbrev pub CutDelivery : {S : Type 0} → StoredNodeState S → List Message → ℕ → Views → EventResult → UpOrDown → Type 0
 CutDelivery old sent number views given left =
     Delivers sent (length sent) number (λ m. CutGives old.config old.me views (Deliver m)) views given left
 
-pub cut_delivered : {S : Type 0} (old new : SeatState S) (before : List Message) (views : Views) (number : ℕ) (m : Message) (given : EventResult)
+pub cut_delivered : {S : Type 0} (old new : StoredNodeState S) (before : List Message) (views : Views) (number : ℕ) (m : Message) (given : EventResult)
     → slice_get before number ≡ Some m
     → Leaves old new before before given (CutGives old.config old.me views (Deliver m) given)
     → Leaves old new before before given (CutDelivery old before number views given)
@@ -281,14 +281,14 @@ cut_delivered old new before views number m given there leaves = record {
   config_is = leaves.config_is;
 }
 
-pub not_sent_stays : {S : Type 0} (state : SeatState S) (before : List Message) (views : Views) (number : ℕ) → IsPlaced state → StandsUp state views → slice_get before number ≡ None
+pub not_sent_stays : {S : Type 0} (state : StoredNodeState S) (before : List Message) (views : Views) (number : ℕ) → IsPlaced state → StandsUp state views → slice_get before number ≡ None
     → Leaves state state before before (results.Refused results.NotSent) (CutDelivery state before number views (results.Refused results.NotSent))
 not_sent_stays state before views number placed up none =
     stays state before views (results.Refused results.NotSent) (CutDelivery state before number views (results.Refused results.NotSent)) placed up refl
     (inr (is_not_sent before number none, refl, refl))
 
 -- a message that the node is not handed, where it goes down: what it would have kept is not recovered
-module _ {S : Type 0} (some : TakenKeepSome) (old new : SeatState S) (before : List Message) (views : Views) (number : ℕ) (placed : IsPlaced old) (up : StandsUp old views) (node : NodeState) (here : old.node ≡ Some node)
+module _ {S : Type 0} (some : TakenKeepSome) (old new : StoredNodeState S) (before : List Message) (views : Views) (number : ℕ) (placed : IsPlaced old) (up : StandsUp old views) (node : NodeState) (here : old.node ≡ Some node)
     (has : HasNode old new None) where
   abbrev unhanded : Result (Unit {0}) StoreFault
   unhanded = Err store.OutOfMemory
@@ -340,16 +340,16 @@ info_counts table given uploads (inl (inl gives)) = ap count_of gives.1
 info_counts table given uploads (inl (inr gives)) = ap count_of gives.1
 info_counts table given uploads (inr gives) = ap count_of gives.1
 
-module _ {S : Type 0} (state : SeatState S) (before : List Message) (views : Views) (given : EventResult) (Gives : List Upload → EventResult → Type 0) (placed : IsPlaced state) (up : StandsUp state views) where
+module _ {S : Type 0} (state : StoredNodeState S) (before : List Message) (views : Views) (given : EventResult) (Gives : List Upload → EventResult → Type 0) (placed : IsPlaced state) (up : StandsUp state views) where
   pub answered : (node : NodeState) → state.node ≡ Some node → ((uploads : List Upload) → Gives uploads given → count_of given ≡ 0)
       → ((uploads : List Upload) → NodeHas node views → HasUploads node.agreement.config.members views.learner_calls uploads → Gives uploads given)
-      → Leaves state state before before given (QuestionGives state.config views Gives given)
+      → Leaves state state before before given (QueryGives state.config views Gives given)
   answered node here counts answers =
       let same = same_node state views up node here in
       let has : NodeHas node views = subst (λ (n : NodeState). NodeHas n views) (sym same) up.has in
-      let of = uploads_of state.config.members node views (ap (λ (n : NodeState). n.agreement.config.members) same ∙ ap (λ (c : Config). c.members) up.config_is) has in
+      let of = uploads_of state.config.members node views (ap (λ (n : NodeState). n.agreement.config.members) same ∙ ap (λ (c : AgreementConfig). c.members) up.config_is) has in
       let gives = answers of.0 has of.1 in
-      stays state before views given (QuestionGives state.config views Gives given) placed up (counts of.0 gives) (of.0, of.2, gives, refl)
+      stays state before views given (QueryGives state.config views Gives given) placed up (counts of.0 gives) (of.0, of.2, gives, refl)
 
 -- ---- a restart
 
@@ -360,13 +360,13 @@ recalled_of None kept records due recovered has = has
 recalled_of (Some last) kept records due recovered (same, is) =
     (recovered, ap (λ (rs : List Record). with_due recovered rs (Some last)) same ∙ ap (λ (d : Option Record). with_due recovered records d) (sym is))
 
-opened_in : {S : Type 0} (old : SeatState S) (seat : Seat) (recovered : Bool) → Stands old seat
+opened_in : {S : Type 0} (old : StoredNodeState S) (seat : UpOrDown) (recovered : Bool) → Stands old seat
     → (found : Bool) × (with_due recovered old.records old.doubted ≡ recovered_in found seat)
 opened_in old (IsUp views) recovered up = (true, ap (λ (d : Option Record). with_due recovered old.records d) up.certain ∙ up.kept)
 opened_in old (IsDown records due) recovered was = recalled_of old.doubted old.records records due recovered was.kept
 
 -- the node is opened with the records that its store has
-pub restarted : {S : Type 0} (old new : SeatState S) (recovered : Bool) → IsRecovered old new recovered → RestartApplies old new results.Done
+pub restarted : {S : Type 0} (old new : StoredNodeState S) (recovered : Bool) → IsRecovered old new recovered → RestartApplies old new results.Done
 restarted old new recovered is seat before placed stands =
     let opened = opened_in old seat recovered stands in (
       opened.0,
@@ -375,8 +375,8 @@ restarted old new recovered is seat before placed stands =
     )
 
 -- it is not, and is down
-start_refused : {S : Type 0} (old new : SeatState S) (before : List Message) (given : EventResult) → IsPlaced old → HasNode old new None
-    → given ≡ results.Refused results.OutOfMemory → (seat : Seat) → Stands old seat
+start_refused : {S : Type 0} (old new : StoredNodeState S) (before : List Message) (given : EventResult) → IsPlaced old → HasNode old new None
+    → given ≡ results.Refused results.OutOfMemory → (seat : UpOrDown) → Stands old seat
     → (recovered : Bool) × Leaves old new before before given (RestartGives recovered seat given)
 start_refused old new before given placed has is (IsUp views) up = (
   true,
@@ -395,7 +395,7 @@ start_refused old new before given placed has is (IsDown records due) was = (
 )
 
 -- memory was refused for it, and the node is let go
-pub restart_refused : {S : Type 0} (old mid new : SeatState S) (given : EventResult) → IsUnchanged old mid → HasNode mid new None → given ≡ results.Refused results.OutOfMemory
+pub restart_refused : {S : Type 0} (old mid new : StoredNodeState S) (given : EventResult) → IsUnchanged old mid → HasNode mid new None → given ≡ results.Refused results.OutOfMemory
     → RestartApplies old new given
 restart_refused old mid new given is has is_refused seat before placed stands =
     start_refused old new before given placed
@@ -408,7 +408,7 @@ restart_refused old mid new given is has is_refused seat before placed stands =
     }) is_refused seat stands
 
 -- the store failed, and all else is as it was
-pub unchanged : {S : Type 0} (old new : SeatState S) → IsUnchanged old new → (seat : Seat) (before : List Message) → IsPlaced old → Stands old seat
+pub unchanged : {S : Type 0} (old new : StoredNodeState S) → IsUnchanged old new → (seat : UpOrDown) (before : List Message) → IsPlaced old → Stands old seat
     → IsAsBefore old new seat before before
 unchanged old new is seat before placed stands = record {
   stands = is.stands seat stands;

@@ -6,7 +6,7 @@ use Rattle.ballots.specs.declared.message.Body.{Body}
 use Rattle.ballots.specs.declared.message.Body.TheVariants as body
 use Rattle.acceptor.specs.declared.answer.Answer.{Answer}
 use Rattle.acceptor.specs.declared.answer.Answer.TheVariants as answer
-use Rattle.agreement_rules.specs.Views.{Config, Views}
+use Rattle.agreement_rules.specs.Views.{AgreementConfig, Views}
 use Rattle.agreement_rules.specs.Due.{Plan, Plans, AimIsDue, Aim, Attempts, AsksFrom, ReplyToPrepare, ReplyToAccept, has_seen}
 use Rattle.histories.specs.Due.{Input, Put, Tick, Deliver, IsDue, BodyIsDue}
 use Rattle.histories.specs.Following.{with_due}
@@ -19,14 +19,16 @@ prepared : (me : ℕ) (views : Views) (slot : ℕ) (ballot : Ballot) (reply : An
 prepared me views slot ballot (answer.Promise report) plan is = subst (Keeps views) (sym is) refl
 prepared me views slot ballot (answer.Nack promised) plan is = subst (Keeps views) (sym is) refl
 prepared me views slot ballot answer.Granted plan is = absurd is
+prepared me views slot ballot (answer.PromiseFrom reports) plan is = absurd is
 
 accepted : (me : ℕ) (views : Views) (slot : ℕ) (proposal : Acceptance) (reply : Answer) (plan : Plan)
     → ReplyToAccept me views slot proposal reply plan → Keeps views plan
 accepted me views slot proposal (answer.Promise report) plan is = absurd is
+accepted me views slot proposal (answer.PromiseFrom reports) plan is = absurd is
 accepted me views slot proposal (answer.Nack promised) plan is = subst (Keeps views) (sym is) refl
 accepted me views slot proposal answer.Granted plan is = subst (Keeps views) (sym is) refl
 
-body_keeps : (config : Config) (me : ℕ) (views : Views) (sender slot : ℕ) (said : Body) (plan : Plan)
+body_keeps : (config : AgreementConfig) (me : ℕ) (views : Views) (sender slot : ℕ) (said : Body) (plan : Plan)
     → BodyIsDue config me views sender slot said plan → Keeps views plan
 body_keeps config me views sender slot (body.Prepare ballot) plan due = prepared me views slot ballot due.2 plan due.5
 body_keeps config me views sender slot (body.Accept proposal) plan due = accepted me views slot proposal due.2 plan due.5
@@ -36,13 +38,13 @@ body_keeps config me views sender slot (body.Accepted acceptance) plan due = sub
 body_keeps config me views sender slot (body.Decided value) plan due = subst (Keeps views) (sym due.4) refl
 body_keeps config me views sender slot body.Ask plan due = subst (Keeps views) (sym due.2) refl
 
-aim_keeps : (config : Config) (me : ℕ) (views : Views) (aim : Aim) (plan : Plan)
+aim_keeps : (config : AgreementConfig) (me : ℕ) (views : Views) (aim : Aim) (plan : Plan)
     → AimIsDue config me views aim (Plans plan) → Keeps views plan
 aim_keeps config me views (Attempts slot value) plan due = subst (Keeps views) (sym due.4) refl
 aim_keeps config me views (AsksFrom slot) plan (inl due) = subst (Keeps views) (sym due.1) refl
 aim_keeps config me views (AsksFrom slot) plan (inr due) = subst (Keeps views) (sym due.1) refl
 
-pub due_keeps : (config : Config) (me : ℕ) (views : Views) (input : Input) (plan : Plan)
+pub due_keeps : (config : AgreementConfig) (me : ℕ) (views : Views) (input : Input) (plan : Plan)
     → IsDue config me views input (Plans plan) → Keeps views plan
 due_keeps config me views (Put text) plan (inl due) = subst (Keeps views) (sym due.1) refl
 due_keeps config me views (Put text) plan (inr due) = subst (Keeps views) (sym due.3) refl

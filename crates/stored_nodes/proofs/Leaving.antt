@@ -10,21 +10,21 @@ use Rattle.stable_records.specs.declared.fault.StoreFault.{StoreFault}
 use Rattle.stable_records.specs.declared.fault.StoreFault.TheVariants as store
 use Rattle.agreement.specs.declared.refusal.Refusal.{Refusal}
 use Rattle.agreement.specs.declared.refusal.Refusal.TheVariants as refusal
-use Rattle.agreement_rules.specs.Views.{Config, Views}
+use Rattle.agreement_rules.specs.Views.{AgreementConfig, Views}
 use Rattle.agreement_rules.specs.Due.{Refusal as DueRefusal, Due, Refuses, Plan, Plans}
 use Rattle.agreement_rules.specs.Due as due
 use Rattle.histories.specs.Due.{Input, IsDue, InputKeeps}
 use Rattle.histories.specs.Due as owed
 use Rattle.histories.specs.EventResult.{EventResult, count_of}
 use Rattle.histories.specs.EventResult as results
-use Rattle.histories.specs.Following.{Seat, IsUp, IsDown, with_due, reason_of, SendsGives, IsAllowed, InputGives}
+use Rattle.histories.specs.Following.{UpOrDown, IsUp, IsDown, with_due, reason_of, SendsGives, IsAllowed, InputGives}
 use Rattle.node_core.specs.Inputs.{refusal_of}
 use Rattle.node_core.specs.State.{NodeState, NodeHas, IsRecordOf}
 use Rattle.node_core.specs.declared.plan.Planned.{Planned}
 use Rattle.node_core.specs.Plans.{IsTaken, IsRefused, JudgesPut, IsPlanned, LeadsTo, kept_by, sent_by}
 use Rattle.node_events.specs.declared.event_result.EventResult.{EventResult as Told}
 use Rattle.node_events.specs.Told.{result_of}
-use Rattle.stored_nodes.specs.State.{SeatState, IsPlaced, StandsUp, StandsDown, Stands, Leaves, SendsFor, IsAsBefore}
+use Rattle.stored_nodes.specs.State.{StoredNodeState, IsPlaced, StandsUp, StandsDown, Stands, Leaves, SendsFor, IsAsBefore}
 use Rattle.stored_nodes.specs.declared.fault.StoredNodeFault.{StoredNodeFault}
 use Rattle.stored_nodes.specs.Kept.{DueLeaves, KeepsDue, HasKept}
 use Rattle.stored_nodes.specs.Steps.{IsDone, IsLeft, IsDoubted, TakeGives, DoubtsNone, IsNotKept, KeepsAlone, StepBreaks}
@@ -36,8 +36,8 @@ use Rattle.stored_nodes.proofs.Allowing.{Allows}
 -- ---- parts
 
 -- two views that are one
-pub viewed_node : {S : Type 0} {a b : SeatState S} → a ≡ b → a.node ≡ b.node
-viewed_node {S = S} is = ap (λ (s : SeatState S). s.node) is
+pub viewed_node : {S : Type 0} {a b : StoredNodeState S} → a ≡ b → a.node ≡ b.node
+viewed_node {S = S} is = ap (λ (s : StoredNodeState S). s.node) is
 
 -- the record that is due is not recovered
 pub without_due : (records : List Record) (due : Option Record) → with_due false records due ≡ records
@@ -45,7 +45,7 @@ without_due records None = refl
 without_due records (Some due) = refl
 
 -- nothing goes out
-pub quiet : {S : Type 0} (old new : SeatState S) (before : List Message) (given : EventResult) (Gives : Seat → Type 0) (left : Seat)
+pub quiet : {S : Type 0} (old new : StoredNodeState S) (before : List Message) (given : EventResult) (Gives : UpOrDown → Type 0) (left : UpOrDown)
     → count_of given ≡ 0 → Gives left → Stands new left → IsPlaced new → new.me ≡ old.me → new.config ≡ old.config
     → Leaves old new before before given Gives
 quiet old new before given Gives left none gives stands placed me config = record {
@@ -60,51 +60,51 @@ quiet old new before given Gives left none gives stands placed me config = recor
   config_is = config;
 }
 
-pub placed_too : {S : Type 0} (old new : SeatState S) → IsPlaced old → new.me ≡ old.me → new.config ≡ old.config
+pub placed_too : {S : Type 0} (old new : StoredNodeState S) → IsPlaced old → new.me ≡ old.me → new.config ≡ old.config
     → AllByRecursion (IsRecordOf old.config) new.records → IfSome new.doubted (IsRecordOf old.config) → IsPlaced new
 placed_too old new placed me config are doubted = record {
-  member = subst (λ (m : ℕ). m < new.config.members) (sym me) (subst (λ (c : Config). old.me < c.members) (sym config) placed.member);
-  records_are = subst (λ (c : Config). AllByRecursion (IsRecordOf c) new.records) (sym config) are;
-  doubted_is = subst (λ (c : Config). IfSome new.doubted (IsRecordOf c)) (sym config) doubted;
+  member = subst (λ (m : ℕ). m < new.config.members) (sym me) (subst (λ (c : AgreementConfig). old.me < c.members) (sym config) placed.member);
+  records_are = subst (λ (c : AgreementConfig). AllByRecursion (IsRecordOf c) new.records) (sym config) are;
+  doubted_is = subst (λ (c : AgreementConfig). IfSome new.doubted (IsRecordOf c)) (sym config) doubted;
 }
 
 -- none is in doubt
-pub none_doubted : (config : Config) (doubted : Option Record) → doubted ≡ None → IfSome doubted (IsRecordOf config)
+pub none_doubted : (config : AgreementConfig) (doubted : Option Record) → doubted ≡ None → IfSome doubted (IsRecordOf config)
 none_doubted config doubted is = subst (λ (d : Option Record). IfSome d (IsRecordOf config)) (sym is) tt
 
-pub same_records : {S : Type 0} (old new : SeatState S) → IsPlaced old → new.me ≡ old.me → new.config ≡ old.config → new.records ≡ old.records → new.doubted ≡ old.doubted → IsPlaced new
+pub same_records : {S : Type 0} (old new : StoredNodeState S) → IsPlaced old → new.me ≡ old.me → new.config ≡ old.config → new.records ≡ old.records → new.doubted ≡ old.doubted → IsPlaced new
 same_records old new placed me config same doubted =
     placed_too old new placed me config (subst (λ (rs : List Record). AllByRecursion (IsRecordOf old.config) rs) (sym same) placed.records_are)
     (subst (λ (d : Option Record). IfSome d (IsRecordOf old.config)) (sym doubted) placed.doubted_is)
 
 -- what is due to the node is due to its seat
-pub due_there : {S : Type 0} (old : SeatState S) (views : Views) (up : StandsUp old views) (input : Input) (due : Due)
+pub due_there : {S : Type 0} (old : StoredNodeState S) (views : Views) (up : StandsUp old views) (input : Input) (due : Due)
     → IsDue up.node.agreement.config up.node.agreement.me views input due → IsDue old.config old.me views input due
 due_there old views up input due is =
     subst (λ (m : ℕ). IsDue old.config m views input due) up.me_is
-    (subst (λ (c : Config). IsDue c up.node.agreement.me views input due) up.config_is is)
+    (subst (λ (c : AgreementConfig). IsDue c up.node.agreement.me views input due) up.config_is is)
 
-pub taken_there : {S : Type 0} (old : SeatState S) (views : Views) (up : StandsUp old views) (input : Input)
+pub taken_there : {S : Type 0} (old : StoredNodeState S) (views : Views) (up : StandsUp old views) (input : Input)
     → IsTaken up.node.agreement.config up.node.agreement.me views input → IsTaken old.config old.me views input
 taken_there old views up input is =
     subst (λ (m : ℕ). IsTaken old.config m views input) up.me_is
-    (subst (λ (c : Config). IsTaken c up.node.agreement.me views input) up.config_is is)
+    (subst (λ (c : AgreementConfig). IsTaken c up.node.agreement.me views input) up.config_is is)
 
-sends_there : {S : Type 0} (old : SeatState S) (views : Views) (up : StandsUp old views) (input : Input)
+sends_there : {S : Type 0} (old : StoredNodeState S) (views : Views) (up : StandsUp old views) (input : Input)
     → SendsFor up.node.agreement.config up.node.agreement.me views input → SendsFor old.config old.me views input
 sends_there old views up input is = (is.0, due_there old views up input (Plans is.0) is.1, is.2)
 
 -- ---- an input
 
 -- how the node is left, and its seat with it
-pub record IsLeftAs {S : Type 0} (old new : SeatState S) (views : Views) (up : StandsUp old views) (node : NodeState) : Type 0 where
+pub record IsLeftAs {S : Type 0} (old new : StoredNodeState S) (views : Views) (up : StandsUp old views) (node : NodeState) : Type 0 where
   pub there : new.node ≡ Some node
   pub node_me : node.agreement.me ≡ up.node.agreement.me
   pub node_config : node.agreement.config ≡ up.node.agreement.config
   pub me : new.me ≡ old.me
   pub config : new.config ≡ old.config
 
-stands_as : {S : Type 0} (old new : SeatState S) (views after : Views) (up : StandsUp old views) (node : NodeState) → IsLeftAs old new views up node
+stands_as : {S : Type 0} (old new : StoredNodeState S) (views after : Views) (up : StandsUp old views) (node : NodeState) → IsLeftAs old new views up node
     → NodeHas node after → new.records ≡ after.records → new.doubted ≡ None → StandsUp new after
 stands_as old new views after up node is_left has kept certain = record {
   node = node;
@@ -121,7 +121,7 @@ next_sent before sends after is =
     subst (λ (ms : List Message). take (length sends) (drop (length before) ms) ≡ sends) (sym is)
     (subst (λ (ms : List Message). take (length sends) ms ≡ sends) (sym (drop-append_seam before sends)) (take_all (length sends) sends (omega arith)))
 
-pub step_done : {S : Type 0} (old new : SeatState S) (views : Views) (input : Input) (before after : List Message) (count : ℕ) (given : EventResult)
+pub step_done : {S : Type 0} (old new : StoredNodeState S) (views : Views) (input : Input) (before after : List Message) (count : ℕ) (given : EventResult)
     → IsPlaced old → (up : StandsUp old views) (node : NodeState) → IsLeftAs old new views up node
     → IsDone up.node node views input old.records new.records new.doubted before after count → given ≡ results.Sent (length before) count
     → Leaves old new before after given (InputGives old.config old.me views input (SendsGives after (length before) views) given)
@@ -145,7 +145,7 @@ step_done old new views input before after count given placed up node is_left do
     }
 
 -- a refusal, as what the input gives; memory is wanted only where no refusal is due
-pub refusal_gives : {S : Type 0} → Allows → (old : SeatState S) (views : Views) (up : StandsUp old views) (input : Input) (Gives : Due → EventResult → Seat → Type 0)
+pub refusal_gives : {S : Type 0} → Allows → (old : StoredNodeState S) (views : Views) (up : StandsUp old views) (input : Input) (Gives : Due → EventResult → UpOrDown → Type 0)
     → ((refusal : DueRefusal) → Gives (Refuses refusal) (results.Refused (reason_of refusal)) (IsUp views)) → (why : Refusal)
     → IsRefused up.node views input why → InputGives old.config old.me views input Gives (results.Refused (reason_of (refusal_of why))) (IsUp views)
 refusal_gives allows old views up input Gives refuses refusal.OutOfRange refused = inl (Refuses due.OutOfRange, due_there old views up input (Refuses due.OutOfRange) refused, refuses due.OutOfRange)
@@ -155,7 +155,7 @@ refusal_gives allows old views up input Gives refuses refusal.OutOfMemory refuse
     inr (allows old.config old.me views input (taken_there old views up input refused), (refl, refl))
 
 -- the seat that is left as it was, whatever room its node has made
-left_so : {S : Type 0} (old new : SeatState S) (views : Views) (before after : List Message) → IsPlaced old → (up : StandsUp old views) (node : NodeState)
+left_so : {S : Type 0} (old new : StoredNodeState S) (views : Views) (before after : List Message) → IsPlaced old → (up : StandsUp old views) (node : NodeState)
     → IsLeftAs old new views up node → IsLeft node views old.records new.records new.doubted before after → IsAsBefore old new (IsUp views) before after
 left_so old new views before after placed up node is_left left = record {
   stands = stands_as old new views views up node is_left left.has (left.unrecorded ∙ up.kept) left.certain;
@@ -166,7 +166,7 @@ left_so old new views before after placed up node is_left left = record {
   unsent = left.unsent;
 }
 
-pub step_left : {S : Type 0} → Allows → (old new : SeatState S) (views : Views) (input : Input) (before after : List Message) (why : Refusal) (given : EventResult)
+pub step_left : {S : Type 0} → Allows → (old new : StoredNodeState S) (views : Views) (input : Input) (before after : List Message) (why : Refusal) (given : EventResult)
     → IsPlaced old → (up : StandsUp old views) (node : NodeState) → IsLeftAs old new views up node
     → IsRefused up.node views input why → IsLeft node views old.records new.records new.doubted before after → given ≡ results.Refused (reason_of (refusal_of why))
     → Leaves old new before after given (InputGives old.config old.me views input (SendsGives after (length before) views) given)
@@ -189,7 +189,7 @@ pub done_by : (old mid new : NodeState) (views : Views) (input : Input) (planned
 done_by old mid new views input planned records kept doubted before after count is has config stands recorded certain sent counted = record {
   plan = is.plan;
   due = is.due;
-  has = stands views is.plan.after has (subst (λ (c : Config). LeadsTo c views planned is.plan.after) (sym config) is.leads);
+  has = stands views is.plan.after has (subst (λ (c : AgreementConfig). LeadsTo c views planned is.plan.after) (sym config) is.leads);
   recorded = recorded ∙ ap (λ (due : Option Record). with_due true records due) (sym is.kept);
   certain = certain;
   sent = sent ∙ ap (λ (ms : List Message). before ++ ms) (sym is.sends);
@@ -220,10 +220,10 @@ planned_sends node views input planned is some = (is.plan, is.due, λ none. some
 some_same : {X : Type 0} (x y : X) → Some x ≡ Some y → x ≡ y
 some_same x y same = cc
 
-pub same_node : {S : Type 0} (state : SeatState S) (views : Views) (up : StandsUp state views) (node : NodeState) → state.node ≡ Some node → node ≡ up.node
+pub same_node : {S : Type 0} (state : StoredNodeState S) (views : Views) (up : StandsUp state views) (node : NodeState) → state.node ≡ Some node → node ≡ up.node
 same_node state views up node is = some_same node up.node (sym is ∙ up.up)
 
-module _ {S : Type 0} (allows : Allows) (old new : SeatState S) (views : Views) (input : Input) (before after : List Message) (placed : IsPlaced old) (up : StandsUp old views)
+module _ {S : Type 0} (allows : Allows) (old new : StoredNodeState S) (views : Views) (input : Input) (before after : List Message) (placed : IsPlaced old) (up : StandsUp old views)
     (node changed : NodeState) (here : old.node ≡ Some node) (there : new.node ≡ Some changed) (node-me : changed.agreement.me ≡ node.agreement.me)
     (node-config : changed.agreement.config ≡ node.agreement.config) (me : new.me ≡ old.me) (config : new.config ≡ old.config) where
   is_left_so : IsLeftAs old new views up changed
@@ -323,7 +323,7 @@ cut_has_kept (Ok done) records kept doubted due keeps = certainly_kept doubted r
 cut_has_kept (Err why) records kept doubted due keeps = has_kept doubted records kept due keeps.0 keeps.1
 
 -- what was kept and what is in doubt is of the configuration, where the record that is due is
-pub kept_are_of : (config : Config) (doubted : Option Record) (records kept : List Record) (due : Option Record) → AllByRecursion (IsRecordOf config) records → IsOf config due
+pub kept_are_of : (config : AgreementConfig) (doubted : Option Record) (records kept : List Record) (due : Option Record) → AllByRecursion (IsRecordOf config) records → IsOf config due
     → HasKept kept doubted records due → AllByRecursion (IsRecordOf config) kept × IfSome doubted (IsRecordOf config)
 kept_are_of config None records kept due are of (recovered, is) =
     (subst (λ (rs : List Record). AllByRecursion (IsRecordOf config) rs) (sym is) (recovered_are_of config recovered records due are of), tt)
@@ -379,14 +379,14 @@ doubts keep node views input planned records kept doubted due before after why r
       unsent = unsent;
     }
 
-pub keeps_there : {S : Type 0} (old : SeatState S) (views : Views) (up : StandsUp old views) (input : Input) (due : Option Record)
+pub keeps_there : {S : Type 0} (old : StoredNodeState S) (views : Views) (up : StandsUp old views) (input : Input) (due : Option Record)
     → InputKeeps up.node.agreement.config up.node.agreement.me views input due → InputKeeps old.config old.me views input due
 keeps_there old views up input due keeps =
     subst (λ (m : ℕ). InputKeeps old.config m views input due) up.me_is
-    (subst (λ (c : Config). InputKeeps c up.node.agreement.me views input due) up.config_is keeps)
+    (subst (λ (c : AgreementConfig). InputKeeps c up.node.agreement.me views input due) up.config_is keeps)
 
 -- the seat is down, with what its store has
-pub doubted_down : {S : Type 0} (old new : SeatState S) (views : Views) (input : Input) (records : List Record) (due : Option Record) → IsPlaced old → StandsUp old views → InputKeeps old.config old.me views input due
+pub doubted_down : {S : Type 0} (old new : StoredNodeState S) (views : Views) (input : Input) (records : List Record) (due : Option Record) → IsPlaced old → StandsUp old views → InputKeeps old.config old.me views input due
     → new.node ≡ None → new.me ≡ old.me → new.config ≡ old.config → HasKept new.records new.doubted old.records due → StandsDown new views.records due × IsPlaced new
 doubted_down old new views input records due placed up keeps down me config kept =
     let are = kept_are_of old.config new.doubted old.records new.records due placed.records_are (kept_is_of old.config old.me views input due placed.member keeps) kept in (
@@ -395,7 +395,7 @@ doubted_down old new views input records due placed up keeps down me config kept
     )
 
 -- what it was up for is broken off
-pub step_breaks : {S : Type 0} (old new : SeatState S) (views : Views) (input : Input) (before after : List Message) (node : NodeState) → IsPlaced old → (up : StandsUp old views) → old.node ≡ Some node
+pub step_breaks : {S : Type 0} (old new : StoredNodeState S) (views : Views) (input : Input) (before after : List Message) (node : NodeState) → IsPlaced old → (up : StandsUp old views) → old.node ≡ Some node
     → (NodeHas node views → IsDoubted node views input old.records new.records new.doubted before after) → new.node ≡ None → new.me ≡ old.me → new.config ≡ old.config
     → StepBreaks old new views input before after
 step_breaks old new views input before after node placed up here gives down me config =

@@ -5,14 +5,14 @@ use Rattle.ballots.specs.declared.record.Record.{Record}
 use Rattle.stable_records.specs.declared.fault.StoreFault.{StoreFault}
 use Rattle.agreement.specs.declared.refusal.Refusal.{Refusal}
 use Rattle.agreement.specs.declared.refusal.Refusal.TheVariants as refusal
-use Rattle.agreement_rules.specs.Views.{Config, Views}
+use Rattle.agreement_rules.specs.Views.{AgreementConfig, Views}
 use Rattle.agreement_rules.specs.Due.{Plans}
 use Rattle.histories.specs.Due.{Input, IsDue, InputKeeps}
-use Rattle.histories.specs.Following.{Seat, IsUp, IsDown, with_due}
+use Rattle.histories.specs.Following.{UpOrDown, IsUp, IsDown, with_due}
 use Rattle.node_core.specs.State.{NodeState, NodeHas, IsRecordOf, StandsAsBefore}
 use Rattle.node_core.specs.declared.plan.Planned.{Planned}
 use Rattle.node_core.specs.Plans.{CanCommit, IsPlanned, IsRefused, LeadsTo, kept_by}
-use Rattle.stored_nodes.specs.State.{SeatState, IsPlaced, StandsUp, Stands}
+use Rattle.stored_nodes.specs.State.{StoredNodeState, IsPlaced, StandsUp, Stands}
 use Rattle.stored_nodes.specs.Kept.{DueLeaves}
 use Rattle.node_events.specs.declared.event_result.Reason.{Reason}
 use Rattle.stored_nodes.specs.Parts.{reason_telling, RefusesAs, PlanAnswers, IsPlannedFor, IsUpFor, StandsStill, IsDoneFor, IsBrokenOff}
@@ -32,13 +32,13 @@ planned_too : (node changed : NodeState) (views : Views) (input : Input) (planne
 planned_too node changed views input planned me config is = record {
   plan = is.plan;
   due = subst (λ (m : ℕ). IsDue changed.agreement.config m views input (Plans is.plan)) (sym me)
-      (subst (λ (c : Config). IsDue c node.agreement.me views input (Plans is.plan)) (sym config) is.due);
+      (subst (λ (c : AgreementConfig). IsDue c node.agreement.me views input (Plans is.plan)) (sym config) is.due);
   kept = is.kept;
   sends = is.sends;
-  leads = subst (λ (c : Config). LeadsTo c views planned is.plan.after) (sym config) is.leads;
+  leads = subst (λ (c : AgreementConfig). LeadsTo c views planned is.plan.after) (sym config) is.leads;
 }
 
-module _ {S : Type 0} (old new : SeatState S) (node changed : NodeState) (here : old.node ≡ Some node) (there : new.node ≡ Some changed) (node-me : changed.agreement.me ≡ node.agreement.me)
+module _ {S : Type 0} (old new : StoredNodeState S) (node changed : NodeState) (here : old.node ≡ Some node) (there : new.node ≡ Some changed) (node-me : changed.agreement.me ≡ node.agreement.me)
     (node-config : changed.agreement.config ≡ node.agreement.config) (me : new.me ≡ old.me) (config : new.config ≡ old.config) (records : new.records ≡ old.records)
     (doubted : new.doubted ≡ old.doubted) (same : StandsAsBefore node changed) where
   -- it stands as it stood
@@ -55,7 +55,7 @@ module _ {S : Type 0} (old new : SeatState S) (node changed : NodeState) (here :
         certain = doubted ∙ up.certain;
       }
 
-  stands_too : (seat : Seat) → Stands old seat → Stands new seat
+  stands_too : (seat : UpOrDown) → Stands old seat → Stands new seat
   stands_too (IsUp views) up = up_too views up
   stands_too (IsDown kept due) was = absurd (none_is_some node (sym was.down ∙ here))
 
@@ -84,13 +84,13 @@ module _ {S : Type 0} (old new : SeatState S) (node changed : NodeState) (here :
       }
 
 -- the node that is refused is that of the seat
-refused_for : {S : Type 0} (state : SeatState S) (node : NodeState) (input : Input) (why : Refusal) → state.node ≡ Some node
+refused_for : {S : Type 0} (state : StoredNodeState S) (node : NodeState) (input : Input) (why : Refusal) → state.node ≡ Some node
     → ((views : Views) → NodeHas node views → IsRefused node views input why) → (views : Views) (up : StandsUp state views) → IsRefused up.node views input why
 refused_for state node input why here gives views up =
     let one = same_node state views up node here in
     subst (λ (n : NodeState). IsRefused n views input why) one (gives views (subst (λ (n : NodeState). NodeHas n views) (sym one) up.has))
 
-refused_by : {S : Type 0} (old new : SeatState S) (input : Input) (why : Refusal) → RefusesAs old input why → PlanAnswers old new input (Err (reason_telling why))
+refused_by : {S : Type 0} (old new : StoredNodeState S) (input : Input) (why : Refusal) → RefusesAs old input why → PlanAnswers old new input (Err (reason_telling why))
 refused_by old new input refusal.OutOfRange refuses = refuses
 refused_by old new input refusal.SlotsSpent refuses = refuses
 refused_by old new input refusal.RoundsSpent refuses = refuses
@@ -100,28 +100,28 @@ is_some_by : {X : Type 0} (found : Option X) (x : X) → found ≡ Some x → Is
 is_some_by {X = X} found x is = subst (λ (o : Option X). IsSome o) (sym is) refl
 
 -- what a plan is answered by
-pub plan_answers : {S : Type 0} (old new : SeatState S) (node : NodeState) (input : Input) (planned : Planned) (answer : Result Planned Reason) → old.node ≡ Some node → answer ≡ Ok planned
+pub plan_answers : {S : Type 0} (old new : StoredNodeState S) (node : NodeState) (input : Input) (planned : Planned) (answer : Result Planned Reason) → old.node ≡ Some node → answer ≡ Ok planned
     → ((views : Views) → StandsUp old views → IsPlannedFor new views input planned) → PlanAnswers old new input answer
 plan_answers old new node input planned answer here is planned-for =
     subst (λ (r : Result Planned Reason). PlanAnswers old new input r) (sym is) (is_some_by old.node node here, planned-for)
 
-pub refusal_answers : {S : Type 0} (old new : SeatState S) (node : NodeState) (input : Input) (why : Refusal) (reason : Reason) (answer : Result Planned Reason) → old.node ≡ Some node
+pub refusal_answers : {S : Type 0} (old new : StoredNodeState S) (node : NodeState) (input : Input) (why : Refusal) (reason : Reason) (answer : Result Planned Reason) → old.node ≡ Some node
     → answer ≡ Err reason → reason ≡ reason_telling why → ((views : Views) → NodeHas node views → IsRefused node views input why) → PlanAnswers old new input answer
 refusal_answers old new node input why reason answer here is tells gives =
     subst (λ (r : Result Planned Reason). PlanAnswers old new input r) (sym (is ∙ ap (λ (r : Reason). Err r) tells))
     (refused_by old new input why (is_some_by old.node node here, refused_for old node input why here gives))
 
 -- and the node can commit it
-pub planned_is_up : {S : Type 0} (state : SeatState S) (node : NodeState) (planned : Planned) (answer : Result Planned Reason) → state.node ≡ Some node → answer ≡ Ok planned → CanCommit node planned
+pub planned_is_up : {S : Type 0} (state : StoredNodeState S) (node : NodeState) (planned : Planned) (answer : Result Planned Reason) → state.node ≡ Some node → answer ≡ Ok planned → CanCommit node planned
     → IfOk answer (IsUpFor state)
 planned_is_up state node planned answer here is can = subst (λ (r : Result Planned Reason). IfOk r (IsUpFor state)) (sym is) (node, here, can)
 
-pub refused_is_up : {S : Type 0} (state : SeatState S) (reason : Reason) (answer : Result Planned Reason) → answer ≡ Err reason → IfOk answer (IsUpFor state)
+pub refused_is_up : {S : Type 0} (state : StoredNodeState S) (reason : Reason) (answer : Result Planned Reason) → answer ≡ Err reason → IfOk answer (IsUpFor state)
 refused_is_up state reason answer is = subst (λ (r : Result Planned Reason). IfOk r (IsUpFor state)) (sym is) tt
 
 -- ---- what is taken
 
-module _ {S : Type 0} (old new : SeatState S) (views : Views) (input : Input) (planned : Planned) (placed : IsPlaced old) (for : IsPlannedFor old views input planned)
+module _ {S : Type 0} (old new : StoredNodeState S) (views : Views) (input : Input) (planned : Planned) (placed : IsPlaced old) (for : IsPlannedFor old views input planned)
     (node : NodeState) (here : old.node ≡ Some node) (me : new.me ≡ old.me) (config : new.config ≡ old.config) where
   -- its record is kept, and the node stands where the plan leads
   pub done_for : {T : Type 0} (result : Result T StoreFault) (done : T) (changed : NodeState) → result ≡ Ok done → new.node ≡ Some changed → changed.agreement.me ≡ node.agreement.me

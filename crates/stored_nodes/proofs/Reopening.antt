@@ -2,15 +2,15 @@
 use Rattle.std.proofs.Common.{◌≡◌, sym, subst, ◌∙◌, ℕ, ◌<◌, false, Bool, None, Some, List}
 use Rattle.std.specs.List.{AllByRecursion}
 use Rattle.ballots.specs.declared.record.Record.{Record}
-use Rattle.agreement_rules.specs.Views.{Config, started_with}
+use Rattle.agreement_rules.specs.Views.{AgreementConfig, started_with}
 use Rattle.histories.specs.Following.{with_due}
 use Rattle.node_core.specs.State.{NodeState, NodeHas, IsRecordOf, Starts}
-use Rattle.stored_nodes.specs.State.{SeatState}
+use Rattle.stored_nodes.specs.State.{StoredNodeState}
 use Rattle.stored_nodes.specs.Parts.{IsRecovered}
 use Rattle.stored_nodes.proofs.Leaving.{none_doubted}
 
 -- it starts with the records that were recalled
-pub reopened : {S : Type 0} (old new : SeatState S) (node : NodeState) (records : List Record) (recovered : Bool) → Starts old.config old.me records node
+pub reopened : {S : Type 0} (old new : StoredNodeState S) (node : NodeState) (records : List Record) (recovered : Bool) → Starts old.config old.me records node
     → records ≡ with_due recovered old.records old.doubted → (old.doubted ≡ None → recovered ≡ false) → new.node ≡ Some node → new.records ≡ records → new.doubted ≡ None
     → new.me ≡ old.me → new.config ≡ old.config → IsRecovered old new recovered
 reopened old new node records recovered starts are none there kept certain me config = record {
@@ -25,8 +25,8 @@ reopened old new node records recovered starts are none there kept certain me co
   };
   none_in_doubt = none;
   placed = record {
-    member = subst (λ (m : ℕ). m < new.config.members) (sym me) (subst (λ (c : Config). old.me < c.members) (sym config) starts.can.member);
-    records_are = subst (λ (c : Config). AllByRecursion (IsRecordOf c) new.records) (sym config)
+    member = subst (λ (m : ℕ). m < new.config.members) (sym me) (subst (λ (c : AgreementConfig). old.me < c.members) (sym config) starts.can.member);
+    records_are = subst (λ (c : AgreementConfig). AllByRecursion (IsRecordOf c) new.records) (sym config)
         (subst (λ (rs : List Record). AllByRecursion (IsRecordOf old.config) rs) (sym kept) starts.can.records_are);
     doubted_is = none_doubted new.config new.doubted certain;
   };

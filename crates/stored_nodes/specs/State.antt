@@ -6,14 +6,14 @@ use Rattle.std.specs.List.{AllByRecursion}
 use Rattle.std.specs.Option.{IfSome}
 use Rattle.ballots.specs.declared.record.Record.{Record}
 use Rattle.ballots.specs.declared.message.Message.{Message}
-use Rattle.agreement_rules.specs.Views.{Config, Views}
+use Rattle.agreement_rules.specs.Views.{AgreementConfig, Views}
 use Rattle.agreement_rules.specs.Due.{Plan, Plans}
 use Rattle.histories.specs.Due.{Input, IsDue, InputKeeps}
 use Rattle.histories.specs.Due as input
 use Rattle.histories.specs.Event.{Event, node_of}
 use Rattle.histories.specs.Event as event
 use Rattle.histories.specs.EventResult.{EventResult, count_of}
-use Rattle.histories.specs.Following.{Seat, IsUp, IsDown, SeatGives, IsAsked}
+use Rattle.histories.specs.Following.{UpOrDown, IsUp, IsDown, NodeGives, IsAsked}
 use Rattle.node_core.specs.State.{NodeState, NodeHas, IsRecordOf}
 use Rattle.node_events.specs.declared.event_result.EventResult.{EventResult as Told}
 use Rattle.node_events.specs.Told.{result_of}
@@ -21,9 +21,9 @@ use Rattle.stored_nodes.specs.declared.fault.StoredNodeFault.{StoredNodeFault}
 use Rattle.stored_nodes.specs.declared.fault.StoredNodeFault.TheVariants.{OutOfMemory, Store, Lost}
 use Rattle.stored_nodes.specs.Kept.{HasKept}
 
-pub record SeatState (S : Type 0) : Type 0 where
+pub record StoredNodeState (S : Type 0) : Type 0 where
   pub me : ℕ
-  pub config : Config
+  pub config : AgreementConfig
   pub store : S
   -- those that its store kept
   pub records : List Record
@@ -33,13 +33,13 @@ pub record SeatState (S : Type 0) : Type 0 where
   pub node : Option NodeState
 
 -- it is a member, and what it kept is of its configuration
-pub record IsPlaced {S : Type 0} (state : SeatState S) : Type 0 where
+pub record IsPlaced {S : Type 0} (state : StoredNodeState S) : Type 0 where
   pub member : state.me < state.config.members
   pub records_are : AllByRecursion (IsRecordOf state.config) state.records
   pub doubted_is : IfSome state.doubted (IsRecordOf state.config)
 
 -- the node is this one, and has these views
-pub record StandsUp {S : Type 0} (state : SeatState S) (views : Views) : Type 0 where
+pub record StandsUp {S : Type 0} (state : StoredNodeState S) (views : Views) : Type 0 where
   pub node : NodeState
   pub up : state.node ≡ Some node
   pub me_is : node.agreement.me ≡ state.me
@@ -49,22 +49,22 @@ pub record StandsUp {S : Type 0} (state : SeatState S) (views : Views) : Type 0 
   pub certain : state.doubted ≡ None
 
 -- the store kept these records, and the one that was due where the node went down, or not
-pub record StandsDown {S : Type 0} (state : SeatState S) (records : List Record) (due : Option Record) : Type 0 where
+pub record StandsDown {S : Type 0} (state : StoredNodeState S) (records : List Record) (due : Option Record) : Type 0 where
   pub down : state.node ≡ None
   pub kept : HasKept state.records state.doubted records due
 
-abbrev pub Stands : {S : Type 0} → SeatState S → Seat → Type 0
+abbrev pub Stands : {S : Type 0} → StoredNodeState S → UpOrDown → Type 0
 Stands state (IsUp views) = StandsUp state views
 Stands state (IsDown records due) = StandsDown state records due
 
 -- ---- an event that is applied
 
 -- Where these messages were sent before, as many more go out as is told, and the seat stands as its rules say.
-pub record Leaves {S : Type 0} (old new : SeatState S) (before after : List Message) (given : EventResult) (Gives : Seat → Type 0) : Type 0 where
+pub record Leaves {S : Type 0} (old new : StoredNodeState S) (before after : List Message) (given : EventResult) (Gives : UpOrDown → Type 0) : Type 0 where
   pub more : List Message
   pub behind : after ≡ before ++ more
   pub counted : length more ≡ count_of given
-  pub left : Seat
+  pub left : UpOrDown
   pub gives : Gives left
   pub stands : Stands new left
   pub placed : IsPlaced new
@@ -73,10 +73,10 @@ pub record Leaves {S : Type 0} (old new : SeatState S) (before after : List Mess
 
 -- Of a node that stood as this seat, where these messages were sent before: the event gives this by the node's rules, as many
 -- messages more go out as it tells, and the node stands as the event leaves the seat.
-abbrev pub SeatApplies : {S : Type 0} → (old new : SeatState S) → Seat → (before after : List Message) → Event → EventResult → Type 0
-SeatApplies old new seat before after e given =
+abbrev pub StoredNodeApplies : {S : Type 0} → (old new : StoredNodeState S) → UpOrDown → (before after : List Message) → Event → EventResult → Type 0
+StoredNodeApplies old new seat before after e given =
     (recovered : Bool) × IsAsked e recovered
-    × Leaves old new before after given (SeatGives old.config after (length before) recovered seat e given)
+    × Leaves old new before after given (NodeGives old.config after (length before) recovered seat e given)
 
 -- ---- an event that is not, for want of memory
 
@@ -94,11 +94,11 @@ IsHanded sent (event.Info node table) asked = ⊥
 IsHanded sent (event.Outcome node text) asked = ⊥
 
 -- messages are due to the input
-abbrev pub SendsFor : Config → ℕ → Views → Input → Type 0
+abbrev pub SendsFor : AgreementConfig → ℕ → Views → Input → Type 0
 SendsFor config me views of = (plan : Plan) × IsDue config me views of (Plans plan) × (plan.sends ≢ [])
 
 -- messages are due to the event of a node that is up, where these were sent before
-abbrev pub UpSends : Config → List Message → Views → Event → Type 0
+abbrev pub UpSends : AgreementConfig → List Message → Views → Event → Type 0
 UpSends config sent views (event.Put node text) = ⊥
 UpSends config sent views (event.Tick node left) = SendsFor config node views (input.Tick left)
 UpSends config sent views (event.Deliver node number) =
@@ -111,12 +111,12 @@ UpSends config sent views (event.Info node table) = ⊥
 UpSends config sent views (event.Outcome node text) = ⊥
 
 -- and of any node: one that is down sends none
-abbrev pub SeatSends : Config → List Message → Seat → Event → Type 0
-SeatSends config sent (IsUp views) e = UpSends config sent views e
-SeatSends config sent (IsDown records due) e = ⊥
+abbrev pub StoredNodeSends : AgreementConfig → List Message → UpOrDown → Event → Type 0
+StoredNodeSends config sent (IsUp views) e = UpSends config sent views e
+StoredNodeSends config sent (IsDown records due) e = ⊥
 
 -- the seat stands as it stood, with the same records, and nothing more was sent
-pub record IsAsBefore {S : Type 0} (old new : SeatState S) (seat : Seat) (before after : List Message) : Type 0 where
+pub record IsAsBefore {S : Type 0} (old new : StoredNodeState S) (seat : UpOrDown) (before after : List Message) : Type 0 where
   pub stands : Stands new seat
   pub records_are : new.records ≡ old.records
   pub placed : IsPlaced new
@@ -127,12 +127,12 @@ pub record IsAsBefore {S : Type 0} (old new : SeatState S) (seat : Seat) (before
 -- ---- an event that is not, since the store failed
 
 -- the record that is due to the input is not kept, or in doubt, and the node is down
-abbrev pub BreaksFor : Config → ℕ → Views → Input → Seat → Type 0
+abbrev pub BreaksFor : AgreementConfig → ℕ → Views → Input → UpOrDown → Type 0
 BreaksFor config me views of left =
     (last : Record) × InputKeeps config me views of (Some last) × (left ≡ IsDown views.records (Some last))
 
 -- the store failed in the event of a node that is up, where these messages were sent before
-abbrev pub UpBreaks : Config → List Message → Views → Event → Seat → Type 0
+abbrev pub UpBreaks : AgreementConfig → List Message → Views → Event → UpOrDown → Type 0
 UpBreaks config sent views (event.Put node text) left = ⊥
 UpBreaks config sent views (event.Tick node passed) left = BreaksFor config node views (input.Tick passed) left
 UpBreaks config sent views (event.Deliver node number) left =
@@ -148,14 +148,14 @@ abbrev pub IsRestart : Event → Type 0
 IsRestart e = (node : ℕ) × (e ≡ event.Restart node)
 
 -- and of any node: one that is down restarts, or is down
-abbrev pub SeatBreaks : Config → List Message → Seat → Event → Seat → Type 0
-SeatBreaks config sent (IsUp views) e left = UpBreaks config sent views e left
-SeatBreaks config sent (IsDown records due) e left = IsRestart e × (left ≡ IsDown records due)
+abbrev pub StoredNodeBreaks : AgreementConfig → List Message → UpOrDown → Event → UpOrDown → Type 0
+StoredNodeBreaks config sent (IsUp views) e left = UpBreaks config sent views e left
+StoredNodeBreaks config sent (IsDown records due) e left = IsRestart e × (left ≡ IsDown records due)
 
 -- the seat stands as the failure leaves it, and nothing more was sent
-pub record IsBroken {S : Type 0} (old new : SeatState S) (seat : Seat) (before after : List Message) (e : Event) : Type 0 where
-  pub left : Seat
-  pub breaks : SeatBreaks old.config before seat e left
+pub record IsBroken {S : Type 0} (old new : StoredNodeState S) (seat : UpOrDown) (before after : List Message) (e : Event) : Type 0 where
+  pub left : UpOrDown
+  pub breaks : StoredNodeBreaks old.config before seat e left
   pub stands : Stands new left
   pub placed : IsPlaced new
   pub me_is : new.me ≡ old.me
@@ -166,13 +166,13 @@ pub record IsBroken {S : Type 0} (old new : SeatState S) (seat : Seat) (before a
 
 -- The event is not applied. Memory is refused for messages that are due, and all is as before; or the store failed; or a restart
 -- was given other records than were kept, and all is as before.
-abbrev pub SeatFails : {S : Type 0} → (old new : SeatState S) → Seat → (before after : List Message) → Event → StoredNodeFault → Type 0
-SeatFails old new seat before after e OutOfMemory =
-    IsAsBefore old new seat before after × SeatSends old.config before seat e
-SeatFails old new seat before after e (Store why) = IsBroken old new seat before after e
-SeatFails old new seat before after e Lost = IsRestart e × IsAsBefore old new seat before after
+abbrev pub StoredNodeFails : {S : Type 0} → (old new : StoredNodeState S) → UpOrDown → (before after : List Message) → Event → StoredNodeFault → Type 0
+StoredNodeFails old new seat before after e OutOfMemory =
+    IsAsBefore old new seat before after × StoredNodeSends old.config before seat e
+StoredNodeFails old new seat before after e (Store why) = IsBroken old new seat before after e
+StoredNodeFails old new seat before after e Lost = IsRestart e × IsAsBefore old new seat before after
 
-abbrev pub SeatAnswers : {S : Type 0} → (old new : SeatState S) → Seat → (before after : List Message) → Event
+abbrev pub StoredNodeAnswers : {S : Type 0} → (old new : StoredNodeState S) → UpOrDown → (before after : List Message) → Event
     → Result Told StoredNodeFault → Type 0
-SeatAnswers old new seat before after e (Ok given) = SeatApplies old new seat before after e (result_of given)
-SeatAnswers old new seat before after e (Err why) = SeatFails old new seat before after e why
+StoredNodeAnswers old new seat before after e (Ok given) = StoredNodeApplies old new seat before after e (result_of given)
+StoredNodeAnswers old new seat before after e (Err why) = StoredNodeFails old new seat before after e why

@@ -5,12 +5,12 @@ use Rattle.ballots.specs.declared.record.Record.{Record}
 use Rattle.ballots.specs.declared.message.Message.{Message}
 use Rattle.stable_records.specs.declared.fault.StoreFault.{StoreFault}
 use Rattle.stable_records.specs.declared.fault.StoreFault.TheVariants as store
-use Rattle.agreement_rules.specs.Views.{Config, Views}
+use Rattle.agreement_rules.specs.Views.{AgreementConfig, Views}
 use Rattle.agreement_rules.specs.Due.{Plan, Plans, IsMessageOf}
 use Rattle.histories.specs.Due.{Input, IsDue, InputKeeps}
 use Rattle.histories.specs.Event.{Event}
 use Rattle.histories.specs.EventResult.{EventResult}
-use Rattle.histories.specs.Following.{Seat, IsUp, IsDown, with_due, InputGives, SendsGives, RestartGives, UpGives}
+use Rattle.histories.specs.Following.{UpOrDown, IsUp, IsDown, with_due, InputGives, SendsGives, RestartGives, UpGives}
 use Rattle.agreement.specs.declared.refusal.Refusal.{Refusal}
 use Rattle.agreement.specs.declared.refusal.Refusal.TheVariants as refusal
 use Rattle.node_core.specs.State.{NodeState, NodeHas}
@@ -22,12 +22,12 @@ use Rattle.node_events.specs.Told.{result_of}
 use Rattle.stored_nodes.specs.declared.fault.StoredNodeFault.{StoredNodeFault}
 use Rattle.stored_nodes.specs.declared.fault.StoredNodeFault.TheVariants as fault
 use Rattle.stored_nodes.specs.Kept.{KeepsDue}
-use Rattle.stored_nodes.specs.State.{SeatState, IsPlaced, Leaves, Stands, StandsUp, StandsDown, SendsFor, IsAsBefore, BreaksFor, SeatFails, SeatAnswers}
+use Rattle.stored_nodes.specs.State.{StoredNodeState, IsPlaced, Leaves, Stands, StandsUp, StandsDown, SendsFor, IsAsBefore, BreaksFor, StoredNodeFails, StoredNodeAnswers}
 
 -- ---- what a node is handed
 
 -- a copy of the message of this number, or why the node is handed none; memory is wanted only for a message that it takes
-abbrev pub HandsMessage : Config → List Message → ℕ → Result Message Reason → Type 0
+abbrev pub HandsMessage : AgreementConfig → List Message → ℕ → Result Message Reason → Type 0
 HandsMessage config sent number (Ok m) = slice_get sent number ≡ Some m
 HandsMessage config sent number (Err OutOfRange) =
     (m : Message) × (slice_get sent number ≡ Some m) × (IsMessageOf config m → ⊥)
@@ -103,15 +103,15 @@ KeepsAlone node views input records kept doubted result =
 -- ---- a seat
 
 -- a node that is up takes an input, and sends
-abbrev pub StepApplies : {S : Type 0} → (old new : SeatState S) → (before after : List Message) → Input → EventResult → Type 0
+abbrev pub StepApplies : {S : Type 0} → (old new : StoredNodeState S) → (before after : List Message) → Input → EventResult → Type 0
 StepApplies old new before after input given =
     (views : Views) → IsPlaced old → StandsUp old views
     → Leaves old new before after given
     (InputGives old.config old.me views input (SendsGives after (length before) views) given)
 
 -- or the store fails, and the node is down
-pub record StepBreaks {S : Type 0} (old new : SeatState S) (views : Views) (input : Input) (before after : List Message) : Type 0 where
-  pub left : Seat
+pub record StepBreaks {S : Type 0} (old new : StoredNodeState S) (views : Views) (input : Input) (before after : List Message) : Type 0 where
+  pub left : UpOrDown
   pub breaks : BreaksFor old.config old.me views input left
   pub stands : Stands new left
   pub placed : IsPlaced new
@@ -120,7 +120,7 @@ pub record StepBreaks {S : Type 0} (old new : SeatState S) (views : Views) (inpu
   pub unsent : after ≡ before
 
 -- or memory is refused for its messages
-abbrev pub StepAnswers : {S : Type 0} → (old new : SeatState S) → (before after : List Message) → Input → Result Told StoredNodeFault → Type 0
+abbrev pub StepAnswers : {S : Type 0} → (old new : StoredNodeState S) → (before after : List Message) → Input → Result Told StoredNodeFault → Type 0
 StepAnswers old new before after input (Ok given) = StepApplies old new before after input (result_of given)
 StepAnswers old new before after input (Err fault.OutOfMemory) =
     (views : Views) → IsPlaced old → StandsUp old views
@@ -130,20 +130,20 @@ StepAnswers old new before after input (Err (fault.Store why)) =
 StepAnswers old new before after input (Err fault.Lost) = (views : Views) → IsPlaced old → StandsUp old views → ⊥
 
 -- an event of a node that is up is applied
-abbrev pub UpApplies : {S : Type 0} → (old new : SeatState S) → (before after : List Message) → Event → EventResult → Type 0
+abbrev pub UpApplies : {S : Type 0} → (old new : StoredNodeState S) → (before after : List Message) → Event → EventResult → Type 0
 UpApplies old new before after e given =
     (views : Views) → IsPlaced old → StandsUp old views
     → Leaves old new before after given (UpGives old.config after (length before) false views e given)
 
 -- of a node that is up, what an event gives
-abbrev pub UpAnswers : {S : Type 0} → (old new : SeatState S) → (before after : List Message)
+abbrev pub UpAnswers : {S : Type 0} → (old new : StoredNodeState S) → (before after : List Message)
     → Event → Result Told StoredNodeFault → Type 0
 UpAnswers old new before after e (Ok given) = UpApplies old new before after e (result_of given)
 UpAnswers old new before after e (Err why) =
-    (views : Views) → IsPlaced old → StandsUp old views → SeatFails old new (IsUp views) before after e why
+    (views : Views) → IsPlaced old → StandsUp old views → StoredNodeFails old new (IsUp views) before after e why
 
 -- a node that was up is down, and the record that is due, if one is, was kept as is told
-pub record IsCut {S T : Type 0} (old new : SeatState S) (views : Views) (input : Input) (result : Result T StoreFault) : Type 0 where
+pub record IsCut {S T : Type 0} (old new : StoredNodeState S) (views : Views) (input : Input) (result : Result T StoreFault) : Type 0 where
   pub due : Option Record
   pub keeps : InputKeeps old.config old.me views input due
   pub down : new.node ≡ None
@@ -151,17 +151,17 @@ pub record IsCut {S T : Type 0} (old new : SeatState S) (views : Views) (input :
   pub me_is : new.me ≡ old.me
   pub config_is : new.config ≡ old.config
 
-abbrev pub CutApplies : {S T : Type 0} → (old new : SeatState S) → Input → Result T StoreFault → Type 0
+abbrev pub CutApplies : {S T : Type 0} → (old new : StoredNodeState S) → Input → Result T StoreFault → Type 0
 CutApplies old new input result = (views : Views) → StandsUp old views → IsCut old new views input result
 
 -- a node that is up answers a client, or goes down; whatever was sent before, nothing goes out
-abbrev pub QuietApplies : {S : Type 0} → (old new : SeatState S) → Event → EventResult → Type 0
+abbrev pub QuietApplies : {S : Type 0} → (old new : StoredNodeState S) → Event → EventResult → Type 0
 QuietApplies old new e given = (before : List Message) → UpApplies old new before before e given
 
 -- ---- a restart
 
 -- the seat has this node in place of the one that it had, or none, and nothing else changes
-pub record HasNode {S : Type 0} (old new : SeatState S) (node : Option NodeState) : Type 0 where
+pub record HasNode {S : Type 0} (old new : StoredNodeState S) (node : Option NodeState) : Type 0 where
   pub node_is : new.node ≡ node
   pub me_is : new.me ≡ old.me
   pub config_is : new.config ≡ old.config
@@ -169,21 +169,21 @@ pub record HasNode {S : Type 0} (old new : SeatState S) (node : Option NodeState
   pub doubted_is : new.doubted ≡ old.doubted
 
 -- the node is opened with the records that were kept, or down; whatever was sent before, nothing goes out
-abbrev pub RestartApplies : {S : Type 0} → (old new : SeatState S) → EventResult → Type 0
+abbrev pub RestartApplies : {S : Type 0} → (old new : StoredNodeState S) → EventResult → Type 0
 RestartApplies old new given =
-    (seat : Seat) (before : List Message) → IsPlaced old → Stands old seat
+    (seat : UpOrDown) (before : List Message) → IsPlaced old → Stands old seat
     → (recovered : Bool) × Leaves old new before before given (RestartGives recovered seat given)
 
 -- or the store fails or has lost records, and the seat stands as it stood
-abbrev pub RestartAnswers : {S : Type 0} → (old new : SeatState S) → Result Told StoredNodeFault → Type 0
+abbrev pub RestartAnswers : {S : Type 0} → (old new : StoredNodeState S) → Result Told StoredNodeFault → Type 0
 RestartAnswers old new (Ok given) = RestartApplies old new (result_of given)
 RestartAnswers old new (Err why) =
     (why ≢ fault.OutOfMemory)
-    × ((seat : Seat) (before : List Message) → IsPlaced old → Stands old seat → IsAsBefore old new seat before before)
+    × ((seat : UpOrDown) (before : List Message) → IsPlaced old → Stands old seat → IsAsBefore old new seat before before)
 
 -- an event of a node that is down; whatever was sent before, nothing goes out
-abbrev pub DownAnswers : {S : Type 0} → (old new : SeatState S) → Event
+abbrev pub DownAnswers : {S : Type 0} → (old new : StoredNodeState S) → Event
     → Result Told StoredNodeFault → Type 0
 DownAnswers old new e result =
     (records : List Record) (due : Option Record) (before : List Message) → IsPlaced old → StandsDown old records due
-    → SeatAnswers old new (IsDown records due) before before e result
+    → StoredNodeAnswers old new (IsDown records due) before before e result

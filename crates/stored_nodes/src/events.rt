@@ -5,11 +5,11 @@ ghost use Rattle.ballots.specs.declared.message.Message.{Message as Sent};
 ghost use Rattle.histories.specs.Event.{node_of};
 ghost use Rattle.histories.specs.Event as events;
 ghost use Rattle.histories.specs.EventResult as results;
-ghost use Rattle.histories.specs.Following.{Seat as HistorySeat};
+ghost use Rattle.histories.specs.Following.{UpOrDown as HistorySeat};
 ghost use Rattle.node_core.specs.Inputs.{input_of};
 ghost use Rattle.node_core.specs.State.{NodeState};
 ghost use Rattle.node_events.specs.Told.{event_of, result_of};
-ghost use Rattle.stored_nodes.specs.State.{IsPlaced, Stands, SeatAnswers};
+ghost use Rattle.stored_nodes.specs.State.{IsPlaced, Stands, StoredNodeAnswers};
 ghost use Rattle.stored_nodes.specs.Steps.{HandsMessage, StepAnswers, UpAnswers, UpApplies, CutApplies};
 ghost use Rattle.stored_nodes.specs.Steps.{QuietApplies, DownAnswers, RestartAnswers, HasNode};
 ghost use Rattle.stored_nodes.specs.Kept.{CountsNodeFault};
@@ -43,7 +43,7 @@ impl<S: Stable + Drop> StoredNode<S> {
         ensures counted { IfErr result (λ fault. CountsNodeFault S.tells fault
             (S.faults self.old.store) (S.faults self.new.store)) }
         ensures gives { IsPlaced self.old → node_of (event_of event.now) ≡ self.old.me → (seat : HistorySeat)
-            → Stands self.old seat → SeatAnswers self.old self.new seat
+            → Stands self.old seat → StoredNodeAnswers self.old self.new seat
             sent.old.items sent.new.items (event_of event.now) result }
     {
         if self.node.is_some() {

@@ -38,9 +38,9 @@ pub struct StoredNode<S: Stable> {
 }
 
 impl<S: Stable> Model for StoredNode<S> {
-    ghost use Rattle.stored_nodes.specs.State.{SeatState};
+    ghost use Rattle.stored_nodes.specs.State.{StoredNodeState};
 
-    ghost Value = { SeatState S };
+    ghost Value = { StoredNodeState S };
 
     ghost use Rattle.node_core.specs.contracts.node.Node as node_part;
     ghost use Rattle.std.specs.Coded.{codes};

@@ -8,9 +8,9 @@ use Rattle.table_types.specs.Uploads.{Upload, upload_text}
 use Rattle.table_types.specs.Valid.{IsUpload}
 use Rattle.table_types.specs.Answers.{answer_of}
 use Rattle.table_types.specs.Tables.{effective, version_of, Outcome, applied, mismatched, conflicting, unknown, outcome_of}
-use Rattle.table_types.specs.Tables.{table_names, records_of}
+use Rattle.table_types.specs.Tables.{table_names, rows_of_uploads}
 use Rattle.table_versions.specs.Values.{AreUploadsIn}
-use Rattle.table_versions.specs.State.{values_limit, TablesState, HasTaken, IsSame}
+use Rattle.table_versions.specs.State.{agreed_values_limit, TablesState, HasTaken, IsSame}
 use Rattle.call_protocol.specs.declared.back_fault.BackFault.{BackFault}
 use Rattle.call_protocol.specs.declared.back_fault.BackFault.TheVariants as faults
 use Rattle.call_reading.specs.Requests.{Request, describes, shows, lists, serves, puts}
@@ -31,7 +31,7 @@ DescribesTable locations table [] d = ⊥
 DescribesTable locations table (first ∷ rest) d =
     d ≡ record {
       version = record { table = table; version = length (first ∷ rest) };
-      records = records_of (first ∷ rest);
+      records = rows_of_uploads (first ∷ rest);
       total_bytes = length (answer_of (record { schema = first.schema; uploads = first ∷ rest }));
       schema = first.schema;
       locations = locations;
@@ -50,7 +50,7 @@ TableFault counted fault =
 
 -- as many values were taken as may be
 abbrev pub IsFull : BackendState → Type 0
-IsFull state = (state.slots ≤ state.tables.taken) ⊎ (values_limit ≤ state.tables.taken)
+IsFull state = (state.slots ≤ state.tables.taken) ⊎ (agreed_values_limit ≤ state.tables.taken)
 
 -- nothing is known of the upload of this encoding
 abbrev pub IsUnknown : List Upload → List ℕ → Type 0

@@ -97,8 +97,8 @@ table_names uploads = names_after [] (firsts [] uploads)
 abbrev pub rows_of_upload : Upload → ℕ
 rows_of_upload upload = sum_by (λ rows. rows.count) upload.batches
 
-abbrev pub records_of : List Upload → ℕ
-records_of uploads = sum_by rows_of_upload uploads
+abbrev pub rows_of_uploads : List Upload → ℕ
+rows_of_uploads uploads = sum_by rows_of_upload uploads
 
 -- ---- what is told of an upload
 

@@ -11,7 +11,7 @@ use Rattle.table_types.specs.Uploads.{Upload}
 use Rattle.table_types.specs.Valid.{IsUpload, FitsFrame, batches_limit}
 use Rattle.table_types.specs.Served.{in_frame, batch_message, messages_of, upload_messages, schema_message}
 use Rattle.table_types.specs.Answers.{answer_of}
-use Rattle.table_types.specs.Tables.{rows_of_upload, records_of}
+use Rattle.table_types.specs.Tables.{rows_of_upload, rows_of_uploads}
 use Rattle.table_versions.specs.Ledger.{frames_text}
 
 -- ---- frames
@@ -61,7 +61,7 @@ batch_rows schema (rows ∷ rest) written =
 pub rows_few : (u : Upload) → IsUpload u → rows_of_upload u ≤ 1073741824
 rows_few u valid = omega (arith, batch_rows u.schema u.batches valid.batches_written, valid.batches_few)
 
-pub records_few : (xs : List Upload) → AllByRecursion IsUpload xs → records_of xs ≤ 1073741824 * length xs
+pub records_few : (xs : List Upload) → AllByRecursion IsUpload xs → rows_of_uploads xs ≤ 1073741824 * length xs
 records_few [] valid = omega arith
 records_few (x ∷ xs) valid = omega (arith, sum_by-cons rows_of_upload x xs, rows_few x valid.0, records_few xs valid.1)
 

@@ -2,7 +2,7 @@
 use Rattle.std.specs.Prelude.{◌≡◌, ℕ, Option, None, Some, List, [], ◌∷◌, length, string_bytes}
 use Rattle.table_types.specs.Uploads.{Upload, schema_text}
 use Rattle.table_types.specs.Answers.{answer_of}
-use Rattle.table_types.specs.Tables.{records_of}
+use Rattle.table_types.specs.Tables.{rows_of_uploads}
 use Rattle.table_versions.specs.declared.info.TableInfo.{TableInfo}
 use Rattle.table_versions.specs.declared.table.Table.{Table}
 
@@ -10,7 +10,7 @@ use Rattle.table_versions.specs.declared.table.Table.{Table}
 pub record IsInfoOf (info : TableInfo) (name : List ℕ) (first : Upload) (counted : List Upload) : Type 0 where
   pub table : string_bytes info.table ≡ name
   pub version : info.version ≡ length counted
-  pub records : info.records ≡ records_of counted
+  pub records : info.records ≡ rows_of_uploads counted
   pub total_bytes : info.total_bytes ≡ length (answer_of (record { schema = first.schema; uploads = counted }))
   pub schema : info.schema.items ≡ schema_text first.schema
 

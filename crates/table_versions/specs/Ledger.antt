@@ -13,7 +13,7 @@ use Rattle.table_types.specs.Valid.{IsUpload}
 use Rattle.table_types.specs.Served.{in_frame, upload_messages, schema_message}
 use Rattle.table_types.specs.Answers.{answer_of}
 use Rattle.table_types.specs.Tables.{Outcome, shape_text, effective, first_with_id, outcome_of}
-use Rattle.table_types.specs.Tables.{table_names, rows_of_upload, records_of}
+use Rattle.table_types.specs.Tables.{table_names, rows_of_upload, rows_of_uploads}
 use Rattle.table_versions.specs.declared.first.First.{First}
 use Rattle.table_versions.specs.declared.place.Place.{Place}
 use Rattle.table_versions.specs.declared.table.Table.{Table}
@@ -76,7 +76,7 @@ pub record IsTableOf (table : Table) (first : Upload) (counted : List Upload) : 
   pub shape : table.shape ≡ shape_text first
   pub schema_frame : table.schema_frame ≡ schema_frame_of first.schema
   pub version : table.version ≡ length counted
-  pub records : table.records ≡ records_of counted
+  pub records : table.records ≡ rows_of_uploads counted
   pub total_bytes : table.total_bytes ≡ length (answer_of (record { schema = first.schema; uploads = counted }))
 
 abbrev pub IsTable : Option Table → List Upload → Type 0

@@ -8,8 +8,8 @@ use Rattle.table_versions.specs.declared.prepared.Prepared.{Prepared}
 use Rattle.table_versions.specs.Ledger.{FirstEntries, TableEntries, FrameEntries, IsLedger, IsPrepared}
 
 -- the most values that are taken
-abbrev pub values_limit : ℕ
-values_limit = 1000000
+abbrev pub agreed_values_limit : ℕ
+agreed_values_limit = 1000000
 
 -- the three maps, how many values were taken, and how many uploads can be taken without memory
 pub record TablesState : Type 0 where
@@ -24,7 +24,7 @@ pub record HasTaken (state : TablesState) (values : List Value) : Type 0 where
   pub uploads : List Upload
   pub are : AreUploadsIn values uploads
   pub taken_is : state.taken ≡ length values
-  pub few : length values ≤ values_limit
+  pub few : length values ≤ agreed_values_limit
   pub ledger : IsLedger state.firsts state.tables state.frames uploads
 
 -- the tables hold the same, whatever room they have
@@ -49,4 +49,4 @@ pub record IsReadyFor (ready : ReadyState) (values : List Value) : Type 0 where
 -- the tables take what is ready without memory
 pub record CanTake (state : TablesState) (ready : ReadyState) : Type 0 where
   pub room : length ready.uploads ≤ state.room
-  pub few : state.taken + ready.count ≤ values_limit
+  pub few : state.taken + ready.count ≤ agreed_values_limit

@@ -10,7 +10,7 @@ ghost use Rattle.table_types.specs.Tables.{version_of, outcome_of};
 ghost use Rattle.table_versions.specs.Outcomes.{told};
 ghost use Rattle.table_versions.specs.Ledger.{FirstEntries, FrameEntries, TableEntries, IsLedger, HasFrames, frames_of};
 ghost use Rattle.table_versions.specs.Ledger.{frames_in};
-ghost use Rattle.table_versions.specs.State.{values_limit};
+ghost use Rattle.table_versions.specs.State.{agreed_values_limit};
 
 use crate::answer::Answer;
 use crate::outcome::Outcome;
@@ -92,7 +92,7 @@ pub(crate) fn answer_by(
 ) -> Result<Option<Answer>, OutOfMemory>
     requires version { 1 ≤ version }
     requires ledger { (firsts : FirstEntries) × (uploads : List Upload)
-        × IsLedger firsts tables.now.entries frames.now.entries uploads × (length uploads ≤ values_limit) }
+        × IsLedger firsts tables.now.entries frames.now.entries uploads × (length uploads ≤ agreed_values_limit) }
     ensures answer { (firsts : FirstEntries) (uploads : List Upload)
         → IsLedger firsts tables.now.entries frames.now.entries uploads
         → IfOk result (λ answer. answer ≡ option_map answer_of (version_of name.now version uploads)) }

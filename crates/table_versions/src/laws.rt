@@ -8,7 +8,7 @@ ghost use Rattle.table_types.specs.Uploads.{Upload};
 ghost use Rattle.table_types.specs.Valid.{IsUpload};
 ghost use Rattle.table_types.specs.Tables.{effective, table_names};
 ghost use Rattle.table_versions.specs.Values.{AreUploadsIn};
-ghost use Rattle.table_versions.specs.State.{TablesState, HasTaken, IsSame, values_limit};
+ghost use Rattle.table_versions.specs.State.{TablesState, HasTaken, IsSame, agreed_values_limit};
 ghost use Rattle.table_versions.specs.declared.tables.TheConstants.{MAX_VALUES};
 ghost use Rattle.table_versions.specs.Info.{IsLatest, SaySame};
 ghost use Rattle.table_versions.specs.declared.info.TableInfo.{TableInfo};
@@ -47,5 +47,5 @@ pub fn same_tables_hold_the_same()
 
 /// The limit of the code is that of the definitions.
 pub fn limit_is_that_of_tables()
-    ensures { MAX_VALUES ≡ values_limit }
+    ensures { MAX_VALUES ≡ agreed_values_limit }
 {}

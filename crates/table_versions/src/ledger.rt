@@ -5,7 +5,7 @@ ghost use Rattle.std.specs.List.{AllZip};
 ghost use Rattle.indexmap.specs.IndexMap.{spare};
 ghost use Rattle.table_types.specs.Uploads.{Upload};
 ghost use Rattle.table_versions.specs.Ledger.{IsLedger, IsPrepared};
-ghost use Rattle.table_versions.specs.State.{values_limit};
+ghost use Rattle.table_versions.specs.State.{agreed_values_limit};
 
 use crate::first::First;
 use crate::placing::place;
@@ -25,7 +25,7 @@ pub(crate) fn take(
     requires table_room { 0 < spare tables.old }
     requires frame_room { 0 < spare frames.old }
     requires ledger { (uploads : List Upload)
-        × IsLedger firsts.old.entries tables.old.entries frames.old.entries uploads × (length uploads < values_limit) }
+        × IsLedger firsts.old.entries tables.old.entries frames.old.entries uploads × (length uploads < agreed_values_limit) }
     requires prepared { (upload : Upload) × IsPrepared prepared upload }
     ensures takes { (uploads : List Upload) (upload : Upload)
         → IsLedger firsts.old.entries tables.old.entries frames.old.entries uploads → IsPrepared prepared upload
@@ -60,7 +60,7 @@ pub(crate) fn take_all(
     requires frame_room { length uploads.items ≤ spare frames.old }
     requires ledger { (taken more : List Upload)
         × IsLedger firsts.old.entries tables.old.entries frames.old.entries taken
-        × AllZip IsPrepared uploads.items more × (length taken + length more ≤ values_limit) }
+        × AllZip IsPrepared uploads.items more × (length taken + length more ≤ agreed_values_limit) }
     ensures takes { (taken more : List Upload)
         → IsLedger firsts.old.entries tables.old.entries frames.old.entries taken → AllZip IsPrepared uploads.items more
         → IsLedger firsts.new.entries tables.new.entries frames.new.entries (taken ++ more) }

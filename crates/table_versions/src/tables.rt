@@ -9,7 +9,7 @@ ghost use Rattle.table_types.specs.Tables.{effective, version_of, outcome_of, ta
 ghost use Rattle.table_versions.specs.Outcomes.{told};
 ghost use Rattle.table_versions.specs.Values.{AreUploadsIn};
 ghost use Rattle.ballots.specs.declared.value.Value.{Value as Agreed};
-ghost use Rattle.table_versions.specs.State.{values_limit, HasTaken, IsReadyFor, CanTake, IsSame};
+ghost use Rattle.table_versions.specs.State.{agreed_values_limit, HasTaken, IsReadyFor, CanTake, IsSame};
 ghost use Rattle.table_versions.specs.Info.{IsLatest};
 
 use crate::answer::Answer;
@@ -170,7 +170,7 @@ impl Tables {
     /// tables hold stays, whatever the answer, and no room is lost. With these values the tables have taken at most
     /// [`MAX_VALUES`].
     pub fn ready(&mut self, values: &[Value]) -> Result<Ready, OutOfMemory>
-        requires { self.old.taken + length values.now ≤ values_limit }
+        requires { self.old.taken + length values.now ≤ agreed_values_limit }
         ensures ready { IfOk result (λ ready. IsReadyFor ready values.now) }
         ensures can { IfOk result (CanTake self.new) }
         ensures same { IsSame self.old self.new }
@@ -185,7 +185,7 @@ impl Tables {
         values: &[Value],
         held: &H,
     ) -> Result<Ready, OutOfMemory>
-        requires { self.old.taken + length values.now ≤ values_limit }
+        requires { self.old.taken + length values.now ≤ agreed_values_limit }
         ensures ready { IfOk result (λ ready. IsReadyFor ready values.now) }
         ensures can { IfOk result (CanTake self.new) }
         ensures same { IsSame self.old self.new }

@@ -13,7 +13,7 @@ const MANY: u64 = 100;
 
 /// How long the journal is, and what each of the three nodes reports of an upload.
 #[derive(Clone, Copy, PartialEq, Eq)]
-pub(crate) struct Standing {
+pub(crate) struct ClusterState {
     pub(crate) counts: Counts,
     pub(crate) first: AtNode,
     pub(crate) second: AtNode,
@@ -25,8 +25,8 @@ pub(crate) fn what_stands<R: Wait, C: Tested>(
     rt: &R,
     nodes: &C,
     upload: &Upload,
-) -> Result<Standing, Why> {
-    Ok(Standing {
+) -> Result<ClusterState, Why> {
+    Ok(ClusterState {
         counts: nodes.counts(rt),
         first: nodes.at_node(rt, upload, 0)?,
         second: nodes.at_node(rt, upload, 1)?,
@@ -35,7 +35,7 @@ pub(crate) fn what_stands<R: Wait, C: Tested>(
 }
 
 /// What this node reports.
-pub(crate) fn at(standing: &Standing, node: u64) -> AtNode {
+pub(crate) fn at(standing: &ClusterState, node: u64) -> AtNode {
     match node {
         0 => standing.first,
         1 => standing.second,
@@ -44,14 +44,14 @@ pub(crate) fn at(standing: &Standing, node: u64) -> AtNode {
 }
 
 // Whether the nodes but this one are as before.
-fn others_stand(before: &Standing, after: &Standing, node: u64) -> bool {
+fn others_stand(before: &ClusterState, after: &ClusterState, node: u64) -> bool {
     (node == 0 || before.first == after.first)
         && (node == 1 || before.second == after.second)
         && (node == 2 || before.third == after.third)
 }
 
 /// Whether there is one entry more, and no message more.
-pub(crate) fn has_one_entry_more(before: &Standing, after: &Standing) -> bool {
+pub(crate) fn has_one_entry_more(before: &ClusterState, after: &ClusterState) -> bool {
     after.counts.entries == before.counts.entries.saturating_add(1)
         && after.counts.messages == before.counts.messages
 }
@@ -61,8 +61,8 @@ pub(crate) fn has_one_entry_more(before: &Standing, after: &Standing) -> bool {
 pub(crate) fn is_cut<R: Wait, C: Holding>(
     rt: &R,
     nodes: &C,
-    before: &Standing,
-    after: &Standing,
+    before: &ClusterState,
+    after: &ClusterState,
     node: u64,
 ) -> bool {
     has_one_entry_more(before, after)

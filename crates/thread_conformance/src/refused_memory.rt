@@ -3,7 +3,7 @@
 //! Run with every allocation refused in turn, the test ends as before or for want of memory.
 
 use crate::calls::{Call, Gave};
-use crate::made::{Standing, at, ended_as, has_one_entry_more, is_cut, what_stands};
+use crate::made::{ClusterState, at, ended_as, has_one_entry_more, is_cut, what_stands};
 use crate::story::{Limits, NEVER, Story, told_of};
 use crate::support::{Why, check, held, told};
 use crate::tested::{Holding, Tested};
@@ -48,7 +48,7 @@ const CALLS: [(u64, Call); 19] = [
 ];
 
 // Whether there is one entry more, and no node has changed.
-fn has_one_more(before: &Standing, after: &Standing) -> bool {
+fn has_one_more(before: &ClusterState, after: &ClusterState) -> bool {
     has_one_entry_more(before, after)
         && after.first == before.first
         && after.second == before.second
@@ -56,7 +56,7 @@ fn has_one_more(before: &Standing, after: &Standing) -> bool {
 }
 
 // Whether all is as where memory was refused: a question is entered before its answer is copied.
-fn stands(before: &Standing, after: &Standing, call: Call) -> bool {
+fn stands(before: &ClusterState, after: &ClusterState, call: Call) -> bool {
     match call {
         Call::Get | Call::RunningGet => *before == *after || has_one_more(before, after),
         _ => *before == *after,
@@ -67,8 +67,8 @@ fn stands(before: &Standing, after: &Standing, call: Call) -> bool {
 fn is_promised<R: Wait, C: Holding>(
     rt: &R,
     nodes: &C,
-    before: &Standing,
-    after: &Standing,
+    before: &ClusterState,
+    after: &ClusterState,
     node: u64,
     call: Call,
     gave: Gave,

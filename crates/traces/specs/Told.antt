@@ -1,6 +1,6 @@
 -- A run's configuration and steps, told as those of histories.
 use Rattle.std.specs.Prelude.{List, map}
-use Rattle.agreement_rules.specs.Views.{Config as HistoryConfig}
+use Rattle.agreement_rules.specs.Views.{AgreementConfig as HistoryConfig}
 use Rattle.histories.specs.History.{Step as HistoryStep}
 pub use Rattle.node_events.specs.Told.{event_of, result_of}
 use Rattle.traces.specs.declared.config.Config.{Config}

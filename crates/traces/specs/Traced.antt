@@ -2,7 +2,7 @@
 use Rattle.std.specs.Prelude.{◌≡◌, ℕ, ◌≤◌, ◌<◌, Bool, List, [], ◌∷◌, ◌++◌, length}
 use Rattle.ballots.specs.declared.message.Message.{Message}
 use Rattle.histories.specs.EventResult.{count_of}
-use Rattle.histories.specs.Following.{Seat, StepFollows, IsAsked, ReachesFrom, at_first}
+use Rattle.histories.specs.Following.{UpOrDown, StepFollows, IsAsked, ReachesFrom, at_first}
 use Rattle.histories.specs.History.{History}
 use Rattle.traces.specs.declared.config.Config.{Config}
 use Rattle.traces.specs.declared.step.Step.{Step}
@@ -40,16 +40,16 @@ TellsMore old step more new = Tells new old.config (old.sent ++ more) (old.steps
 
 -- Its steps follow one another from where the nodes start so, send its messages and no others, and leave the nodes so. For each
 -- restart `recovered` says whether the record that was due where its node went down was recovered.
-abbrev pub TraceReachesFrom : (ℕ → Seat) → Traced → List Bool → (ℕ → Seat) → Type 0
+abbrev pub TraceReachesFrom : (ℕ → UpOrDown) → Traced → List Bool → (ℕ → UpOrDown) → Type 0
 TraceReachesFrom start trace recovered seats =
     ReachesFrom (config_of trace.config) start trace.sent (steps_of trace.steps) recovered seats
 
 -- likewise from the first on
-abbrev pub TraceReaches : Traced → List Bool → (ℕ → Seat) → Type 0
+abbrev pub TraceReaches : Traced → List Bool → (ℕ → UpOrDown) → Type 0
 TraceReaches trace recovered seats = TraceReachesFrom at_first trace recovered seats
 
 -- Behind the trace, of which the nodes are left as `old`, the step follows that sends these messages, and leaves them as `new`.
-pub record StepFollowsBehind (trace : Traced) (old : ℕ → Seat) (step : Step) (more : List Message) (was : Bool) (new : ℕ → Seat) : Type 0 where
+pub record StepFollowsBehind (trace : Traced) (old : ℕ → UpOrDown) (step : Step) (more : List Message) (was : Bool) (new : ℕ → UpOrDown) : Type 0 where
   pub follows : StepFollows (config_of trace.config) (trace.sent ++ more) (length trace.sent) old (step_of step) was new
   pub asked : IsAsked (event_of step.event) was
   pub counted : length more ≡ count_of (result_of step.result)

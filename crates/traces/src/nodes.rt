@@ -1,8 +1,8 @@
 //! Nodes to which events are applied.
 
 ghost use Rattle.std.specs.Prelude.{ℕ};
-ghost use Rattle.agreement_rules.specs.Views.{Config};
-ghost use Rattle.histories.specs.Following.{Seat};
+ghost use Rattle.agreement_rules.specs.Views.{AgreementConfig};
+ghost use Rattle.histories.specs.Following.{UpOrDown};
 ghost use Rattle.traces.specs.Applying.{Answers};
 
 use ballots::Message;
@@ -13,7 +13,7 @@ use std::alloc::AllocError;
 pub trait RunNodes {
     /// They are nodes of this configuration, and each has this. Of what a node has, contracts see what decides its
     /// answers.
-    ghost have: { Self → Config → (ℕ → Seat) → Type 0 };
+    ghost have: { Self → AgreementConfig → (ℕ → UpOrDown) → Type 0 };
 
     /// Applies an event, and tells what it gives. The messages that it sends are put behind those that were sent
     /// before.
@@ -26,6 +26,6 @@ pub trait RunNodes {
     /// [`AllocError`] says that memory for what stands outside the node was refused, as for the messages that go out.
     /// The event is not applied then: nodes and messages are as before.
     fn apply(&mut self, sent: &mut Vec<Message>, event: &Event) -> Result<EventResult, AllocError>
-        ensures { (config : Config) (seats : ℕ → Seat) → have self.old config seats
+        ensures { (config : AgreementConfig) (seats : ℕ → UpOrDown) → have self.old config seats
             → Answers (have self.new config) config seats sent.old.items sent.new.items event.now result };
 }

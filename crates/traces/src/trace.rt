@@ -2,7 +2,7 @@
 
 ghost use Rattle.std.specs.Prelude.{◌≡◌, ◌↔◌, ℕ, ◌+◌, ◌<◌, ◌≤◌, Bool, IsTrue, List, [], ◌∷◌, ◌++◌, OnOk, OnErr, vec_len, vec_capacity};
 ghost use Rattle.lawful_histories.specs.Lawful.{IsLawful};
-ghost use Rattle.histories.specs.Following.{Seat};
+ghost use Rattle.histories.specs.Following.{UpOrDown};
 ghost use Rattle.traces.specs.Traced.{Tells, TellsAsBefore, TellsMore, HasRoomFor, TraceReachesFrom, StepFollowsBehind};
 
 use crate::config::Config;
@@ -103,7 +103,7 @@ impl Trace {
     pub fn push(&mut self, step: Step, more: Vec<Message>)
         requires { HasRoomFor self.old (vec_len more) }
         ensures more { TellsMore self.old step more.items self.new }
-        ensures reaches { (start : ℕ → Seat) (recovered : List Bool) (seats new : ℕ → Seat) (was : Bool)
+        ensures reaches { (start : ℕ → UpOrDown) (recovered : List Bool) (seats new : ℕ → UpOrDown) (was : Bool)
             → TraceReachesFrom start self.old recovered seats
             → StepFollowsBehind self.old seats step more.items was new
             → TraceReachesFrom start self.new (recovered ++ was ∷ []) new }

@@ -15,7 +15,7 @@ use Rattle.table_types.specs.Served.{data_text, upload_messages, messages_of, ba
 use Rattle.table_types.specs.Valid.{IsUpload, FitsFrame}
 use Rattle.table_types.specs.Texts.{IsUploadText}
 use Rattle.uploads.specs.Parts.{batch_parts, batches_parts, batches_text, HasLeft, served_of}
-use Rattle.uploads.specs.Found.{Found, AreServed, HasUploadFields}
+use Rattle.uploads.specs.Found.{HasUploadParts, AreServed, HasUploadFields}
 use Rattle.uploads.specs.Read.{IsSchemaText, AreRowsText, AreBatchesText}
 use Rattle.uploads.proofs.CallerLemmas.{messages_fit, parts_fit, part, present_then, behind_schema, batches_behind, whole, batches_left, schema_there}
 
@@ -50,7 +50,7 @@ written_are schema (r ∷ rows) can = (record { can = can.0; header_is = refl; b
 
 -- ---- an upload's text has the fields of one
 
-pub upload_found : (u : Upload) (text : List ℕ) → IsUpload u → upload_text u ≡ text → Found text u.table u.id (schema_text u.schema) (behind_schema u)
+pub upload_found : (u : Upload) (text : List ℕ) → IsUpload u → upload_text u ≡ text → HasUploadParts text u.table u.id (schema_text u.schema) (behind_schema u)
 upload_found u text is same = record {
   parts = sym same ∙ whole u is;
   short = subst (λ l. length l ≤ 16777216) same is.short;
@@ -74,7 +74,7 @@ no_upload text none (u, (is, same)) = none (u.table, u.id, schema_text u.schema,
 
 -- ---- a text with the fields of an upload, its schema and its batches is one
 
-module _ (text t i s b : List ℕ) (found : Found text t i s b) (schema : SchemaTree) (is_schema : IsSchemaText s schema)
+module _ (text t i s b : List ℕ) (found : HasUploadParts text t i s b) (schema : SchemaTree) (is_schema : IsSchemaText s schema)
     (rows : List Rows) (are : AreBatchesText schema found.list rows) where
   made : Upload
   made = record { table = t; id = i; schema = schema; batches = rows }
@@ -119,14 +119,14 @@ module _ (text t i s b : List ℕ) (found : Found text t i s b) (schema : Schema
 -- ---- which text is none
 
 pub no_schema_text : (text t i s b : List ℕ)
-    → ((table id schema batches : List ℕ) → Found text table id schema batches → (t ≡ table) × (i ≡ id) × (s ≡ schema) × (b ≡ batches))
+    → ((table id schema batches : List ℕ) → HasUploadParts text table id schema batches → (t ≡ table) × (i ≡ id) × (s ≡ schema) × (b ≡ batches))
     → ((schema : SchemaTree) → ¬ IsSchemaText s schema) → ¬ IsUploadText text
 no_schema_text text t i s b only none (u, (is, same)) =
     let parts = only u.table u.id (schema_text u.schema) (behind_schema u) (upload_found u text is same) in
     none u.schema (record { profile = is.profile; fits = is.schema_fits; is = parts.2 })
 
 pub no_batches_text : (text t i s b : List ℕ) (schema : SchemaTree)
-    → ((table id schema batches : List ℕ) → Found text table id schema batches → (t ≡ table) × (i ≡ id) × (s ≡ schema) × (b ≡ batches))
+    → ((table id schema batches : List ℕ) → HasUploadParts text table id schema batches → (t ≡ table) × (i ≡ id) × (s ≡ schema) × (b ≡ batches))
     → ((other : SchemaTree) → IsSchemaText s other → schema ≡ other)
     → ((list : List (List ℕ × List ℕ)) (rows : List Rows) → HasLeft b list → ¬ AreBatchesText schema list rows) → ¬ IsUploadText text
 no_batches_text text t i s b schema only one none (u, (is, same)) =

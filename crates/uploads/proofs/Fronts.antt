@@ -13,7 +13,7 @@ use Rattle.proto_fields.specs.Field.{IsFieldNumber, field_text, fields_text, pre
 use Rattle.proto_messages.specs.Canonical.{bytes_field}
 use Rattle.proto_messages.specs.Stripping.{Strips}
 use Rattle.uploads.specs.Parts.{PartThen, batch_parts, batches_parts, body_text, batch_text, batches_text, IsEncodedBatch, HasLeft, served_of}
-use Rattle.uploads.specs.Found.{Found, AreServed, IsNext, BeginsNamed, HasUploadFields}
+use Rattle.uploads.specs.Found.{HasUploadParts, AreServed, IsNext, BeginsNamed, HasUploadFields}
 use Rattle.uploads.proofs.CallerLemmas.{part, kept, part_long, some_bytes, more_long, present_then, body_some, empty_text, batch_first, batch_parts_text, first_left}
 
 pub has_some : (bytes : List ℕ) → (length bytes == 0) ≡ false → 1 ≤ length bytes
@@ -331,7 +331,7 @@ named text table mid id rest first second is long fit =
 module _ (text t i r s b : List ℕ)
     (names : (table id rest : List ℕ) → BeginsNamed text table id rest → (t ≡ table) × (i ≡ id) × (r ≡ rest))
     (only : (content left : List ℕ) → PartThen 3 r content left → (s ≡ content) × (b ≡ left)) where
-  pub same_found : (table id schema batches : List ℕ) → Found text table id schema batches → (t ≡ table) × (i ≡ id) × (s ≡ schema) × (b ≡ batches)
+  pub same_found : (table id schema batches : List ℕ) → HasUploadParts text table id schema batches → (t ≡ table) × (i ≡ id) × (s ≡ schema) × (b ≡ batches)
   same_found table id schema batches found =
       let first = names table id (part 3 schema ++ batches) (record { parts = found.parts; table_named = found.table_named; named = found.named }) in
       let second = only schema batches (record {
@@ -363,7 +363,7 @@ module _ (text t i r s b : List ℕ)
 
 pub found_is : (text table id rest schema batches : List ℕ) → length text ≤ 16777216 → BeginsNamed text table id rest → PartThen 3 rest schema batches
     → 1 ≤ length schema → FitsFrame (data_text schema [] []) → (list : List (List ℕ × List ℕ)) → HasLeft batches list → AreServed id list
-    → Found text table id schema batches
+    → HasUploadParts text table id schema batches
 found_is text table id rest schema batches short names stands some served list left are = record {
   parts = names.parts ∙ ap (λ l. part 1 table ++ (part 2 id ++ l)) stands.parts;
   short = short;

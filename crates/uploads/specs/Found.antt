@@ -26,7 +26,7 @@ pub record BeginsNamed (text table id rest : List ℕ) : Type 0 where
   pub named : IsId id
 
 -- the text has these parts, which stand in it as those of an upload do, within all limits
-pub record Found (text table id schema batches : List ℕ) : Type 0 where
+pub record HasUploadParts (text table id schema batches : List ℕ) : Type 0 where
   pub parts : text ≡ field_text (bytes_field 1 table) ++ (field_text (bytes_field 2 id) ++ (field_text (bytes_field 3 schema) ++ batches))
   pub short : length text ≤ upload_limit
   pub table_named : IsTableName table
@@ -39,4 +39,4 @@ pub record Found (text table id schema batches : List ℕ) : Type 0 where
 
 -- the text has the fields of an upload
 abbrev pub HasUploadFields : List ℕ → Type 0
-HasUploadFields text = (table id schema batches : List ℕ) × Found text table id schema batches
+HasUploadFields text = (table id schema batches : List ℕ) × HasUploadParts text table id schema batches

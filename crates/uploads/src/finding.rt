@@ -9,7 +9,7 @@ ghost use Rattle.table_types.specs.Texts.{IsUploadText};
 ghost use Rattle.proto_fields.specs.Field.{IsFieldNumber, field_text};
 ghost use Rattle.proto_messages.specs.Canonical.{bytes_field};
 ghost use Rattle.uploads.specs.Parts.{PartThen, HasLeft, IsEncodedBatch, batch_text, body_text};
-ghost use Rattle.uploads.specs.Found.{Found, AreServed, IsNext, BeginsNamed, HasUploadFields};
+ghost use Rattle.uploads.specs.Found.{HasUploadParts, AreServed, IsNext, BeginsNamed, HasUploadFields};
 
 use crate::lengths::fits_frame;
 use crate::limits::{MAX_UPLOAD_BATCHES, UPLOAD_ID_BYTES};
@@ -139,8 +139,8 @@ fn take_names(text: &[u8]) -> Option<(&[u8], &[u8], &[u8])>
 /// The parts of a text that has the fields of an upload, or `None` where it has not.
 pub(crate) fn find_parts(text: &[u8]) -> Option<Parts<'_>>
     ensures some { IfSome result (λ parts.
-        Found text.now parts.table.now parts.id.now parts.schema.now parts.batches.now) }
-    ensures only { IfSome result (λ parts. (table id schema batches : List ℕ) → Found text.now table id schema batches
+        HasUploadParts text.now parts.table.now parts.id.now parts.schema.now parts.batches.now) }
+    ensures only { IfSome result (λ parts. (table id schema batches : List ℕ) → HasUploadParts text.now table id schema batches
         → (parts.table.now ≡ table) × (parts.id.now ≡ id) × (parts.schema.now ≡ schema) × (parts.batches.now ≡ batches)) }
     ensures none { IfNone result (¬ HasUploadFields text.now) }
 {

@@ -1,7 +1,7 @@
 //! A workplace in memory.
 
 use ballots::{Body, Message, NodeId, Slot};
-use node_worker::{End, Fault, PutId, Sent, WorkInput, Workplace};
+use node_worker::{End, PutId, Sent, WorkInput, Workplace, WorkplaceFault};
 
 /// How many nodes there are.
 pub(crate) const NODES: usize = 3;
@@ -34,7 +34,7 @@ pub(crate) struct Fake {
     /// The puts that wait, by their places.
     pub(crate) puts: [Option<u64>; 4],
     /// What the node meets, and nothing is done.
-    pub(crate) fault: Option<Fault>,
+    pub(crate) fault: Option<WorkplaceFault>,
 }
 
 impl Fake {
@@ -73,7 +73,7 @@ impl Workplace for Fake {
         })
     }
 
-    fn hand(&mut self, input: WorkInput) -> Result<Sent, Fault> {
+    fn hand(&mut self, input: WorkInput) -> Result<Sent, WorkplaceFault> {
         match input {
             WorkInput::Deliver(number, message) => {
                 drop(message);
@@ -102,12 +102,12 @@ impl Workplace for Fake {
 
     // Of the put 1 nothing is known; a question of the put 2 meets that the journal is full, one of the put 3 that there is no
     // memory.
-    fn enter(&mut self, put: PutId) -> Result<Option<u64>, Fault> {
+    fn enter(&mut self, put: PutId) -> Result<Option<u64>, WorkplaceFault> {
         self.see(Seen::Entered(put.number));
         match put.number {
             1 => Ok(None),
-            2 => Err(Fault::JournalFull),
-            3 => Err(Fault::OutOfMemory),
+            2 => Err(WorkplaceFault::JournalFull),
+            3 => Err(WorkplaceFault::OutOfMemory),
             number => Ok(Some(number.wrapping_mul(10))),
         }
     }

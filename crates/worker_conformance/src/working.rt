@@ -3,13 +3,13 @@
 use crate::fake::{Fake, Seen, UNREADABLE};
 use crate::support::{Why, check, members, told};
 use ballots::NodeId;
-use node_worker::{End, Fault, Next, Note, Pace, step};
+use node_worker::{End, Next, Note, Pace, WorkplaceFault, step};
 use stable_records::StoreFault;
 use std::alloc::Global;
 use std::test::Fail;
 
 // A workplace where these puts wait and the node meets this fault.
-fn place(alloc: Global, puts: [Option<u64>; 4], fault: Option<Fault>) -> Fake {
+fn place(alloc: Global, puts: [Option<u64>; 4], fault: Option<WorkplaceFault>) -> Fake {
     Fake {
         seen: Vec::new(alloc),
         puts,
@@ -45,7 +45,7 @@ fn hands_and_tells(alloc: Global) -> Result<(), Why> {
         Note::Message(UNREADABLE),
         &[],
     )?;
-    let refused = Some(Fault::OutOfMemory);
+    let refused = Some(WorkplaceFault::OutOfMemory);
     does(
         &mut place(alloc, none, refused),
         Note::Message(4),
@@ -69,7 +69,11 @@ fn answers_what_was_entered(alloc: Global) -> Result<(), Why> {
 
 // Puts of which nothing is known wait on, and so the node is given a tick.
 fn ticks_for_those_that_wait(alloc: Global) -> Result<(), Why> {
-    let mut fake = place(alloc, [None, Some(1), Some(3), None], Some(Fault::NotSent));
+    let mut fake = place(
+        alloc,
+        [None, Some(1), Some(3), None],
+        Some(WorkplaceFault::NotSent),
+    );
     let seen = [
         Seen::Entered(1),
         Seen::Entered(3),
@@ -82,22 +86,22 @@ fn ticks_for_those_that_wait(alloc: Global) -> Result<(), Why> {
 }
 
 // How both puts end where the node meets this fault, which wait on where it ends none.
-fn ends_by(alloc: Global, fault: Fault, end: End) -> Result<(), Why> {
+fn ends_by(alloc: Global, fault: WorkplaceFault, end: End) -> Result<(), Why> {
     let mut fake = place(alloc, [Some(1), None, None, Some(3)], Some(fault));
     let seen = [Seen::Delivered(4), Seen::Ended(1, end), Seen::Ended(3, end)];
     does(&mut fake, Note::Message(4), &seen)
 }
 
 fn ends_all(alloc: Global) -> Result<(), Why> {
-    ends_by(alloc, Fault::Down, End::Down)?;
-    ends_by(alloc, Fault::SlotsSpent, End::SlotsSpent)?;
-    ends_by(alloc, Fault::RoundsSpent, End::RoundsSpent)?;
-    ends_by(alloc, Fault::JournalFull, End::JournalFull)?;
+    ends_by(alloc, WorkplaceFault::Down, End::Down)?;
+    ends_by(alloc, WorkplaceFault::SlotsSpent, End::SlotsSpent)?;
+    ends_by(alloc, WorkplaceFault::RoundsSpent, End::RoundsSpent)?;
+    ends_by(alloc, WorkplaceFault::JournalFull, End::JournalFull)?;
     let device = StoreFault::Device;
-    ends_by(alloc, Fault::Store(device), End::Store(device))?;
+    ends_by(alloc, WorkplaceFault::Store(device), End::Store(device))?;
     let damaged = End::Store(StoreFault::Damaged);
-    ends_by(alloc, Fault::Strange, damaged)?;
-    ends_by(alloc, Fault::Lost, damaged)
+    ends_by(alloc, WorkplaceFault::Strange, damaged)?;
+    ends_by(alloc, WorkplaceFault::Lost, damaged)
 }
 
 fn stops(alloc: Global) -> Result<(), Why> {

@@ -14,5 +14,8 @@ returns-clause-prepare_refused c = λ records old new slot ballot promised is re
 pub returns-clause-accept_refused : goal.returns-clause-accept_refused
 returns-clause-accept_refused c = λ records old new slot proposal promised is refused. restored_as_before records old new refused.2 is
 
+pub returns-clause-prepare_from_refused : goal.returns-clause-prepare_from_refused
+returns-clause-prepare_from_refused c = λ records old new first ballot promised is refuses. restored_as_before records old new refuses.same is
+
 pub returns-clause-run : goal.returns-clause-run
-returns-clause-run c = λ records old new turns is runs. run_restored records old turns new is runs
+returns-clause-run c = λ records old new turns is alone runs. run_restored records old turns new is alone runs

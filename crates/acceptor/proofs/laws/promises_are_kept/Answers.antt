@@ -15,3 +15,10 @@ returns-clause-no_prepare c = λ old later new turns slot held ballot report has
 pub returns-clause-no_accept : goal.returns-clause-no_accept
 returns-clause-no_accept c = λ old later new turns slot held proposal has runs granted.
     at_least_before old.promised later.promised slot held proposal.ballot (run_rises old turns later runs) has granted.0
+
+pub returns-clause-promised_from : goal.returns-clause-promised_from
+returns-clause-promised_from c = λ old new first slot ballot reports takes from. takes.2.promises.from slot from
+
+pub returns-clause-no_prepare_from : goal.returns-clause-no_prepare_from
+returns-clause-no_prepare_from c = λ old later new turns first slot held ballot reports has runs promised from.
+    above_before old.promised later.promised slot held ballot (run_rises old turns later runs) has (promised.0 slot from)

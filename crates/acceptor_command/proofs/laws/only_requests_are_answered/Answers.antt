@@ -7,7 +7,7 @@ use Rattle.ballots.specs.declared.message.Body.{Body}
 use Rattle.ballots.specs.declared.message.Body.TheVariants as says
 use Rattle.ballots.specs.Message.{message}
 use Rattle.acceptor.specs.declared.answer.Answer.{Answer}
-use Rattle.acceptor.specs.declared.answer.Answer.TheVariants.{Promise, Granted, Nack}
+use Rattle.acceptor.specs.declared.answer.Answer.TheVariants.{Promise, PromiseFrom, Granted, Nack}
 use Rattle.acceptor.specs.Standing.{Standing, IsSame}
 use Rattle.acceptor_command.specs.Conversation.{AnswersBody, IsReplyBody, IsReplyTo, own_message, prepare_reply, accept_reply}
 use Rattle.acceptor_command.proofs.laws.only_requests_are_answered.Goals as goal
@@ -32,11 +32,13 @@ prepared : (sender slot : ℕ) (b : Ballot) (reply : Message) (answer : Answer) 
 prepared p s b reply (Promise report) e = replied (message p s (says.Prepare b)) reply (says.Promise b report) e (inl (report, refl))
 prepared p s b reply (Nack promised) e = replied (message p s (says.Prepare b)) reply (says.Nack b promised) e (inr (promised, refl))
 prepared p s b reply Granted e = absurd cc
+prepared p s b reply (PromiseFrom reports) e = absurd cc
 
 accepted : (sender slot : ℕ) (a : Acceptance) (reply : Message) (answer : Answer) → Some reply ≡ accept_reply slot a answer → IsReplyTo (message sender slot (says.Accept a)) reply
 accepted p s a reply Granted e = replied (message p s (says.Accept a)) reply (says.Accepted a) e (inl refl)
 accepted p s a reply (Nack promised) e = replied (message p s (says.Accept a)) reply (says.Nack a.ballot promised) e (inr (promised, refl))
 accepted p s a reply (Promise report) e = absurd cc
+accepted p s a reply (PromiseFrom reports) e = absurd cc
 
 -- what is not answered
 no_reply : (reply : Message) → Some reply ≡ None → ⊥

@@ -1,3 +1,4 @@
+use Rattle.proposer.specs.Call.{Promises}
 use Rattle.agreement_rules.proofs.OneDue.{Laws, one_of_tick, one_of_body, one_record_of_body, one_record_of_message, one_record_of_tick}
 use Rattle.agreement_rules.proofs.laws.due_is_one.Goals as goal
 
@@ -9,7 +10,7 @@ laws c = record {
   round = c.restored_is_one.ensures.round;
   prepare = c.answers_are_one.ensures.prepare;
   accept = c.answers_are_one.ensures.accept;
-  answers = c.answers_are_one-2.ensures.answers;
+  answers = λ members calls promise. c.answers_are_one-2.ensures.answers members calls (Promises promise);
 }
 
 pub returns-clause-tick : goal.returns-clause-tick

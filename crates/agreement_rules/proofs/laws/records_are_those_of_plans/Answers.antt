@@ -1,3 +1,4 @@
+use Rattle.proposer.specs.Call.{Promises}
 use Rattle.agreement_rules.proofs.OneDue.{Laws}
 use Rattle.agreement_rules.proofs.Kept.{body_keeps, body_record_is, message_keeps, message_record_is, no_record_of_others, tick_keeps, tick_record_is, no_record_of_refused}
 use Rattle.agreement_rules.proofs.laws.records_are_those_of_plans.Goals as goal
@@ -10,7 +11,7 @@ laws c = record {
   round = c.restored_is_one.ensures.round;
   prepare = c.answers_are_one.ensures.prepare;
   accept = c.answers_are_one.ensures.accept;
-  answers = c.answers_are_one-2.ensures.answers;
+  answers = λ members calls promise. c.answers_are_one-2.ensures.answers members calls (Promises promise);
 }
 
 pub returns-clause-body : goal.returns-clause-body

@@ -4,7 +4,7 @@ use Rattle.ballots.specs.Ballot.{Ballot}
 use Rattle.ballots.specs.declared.record.Record.{Record}
 use Rattle.ballots.specs.declared.value.Value.{Value}
 use Rattle.chosen_records.specs.Chosen.{IsRecorded, TellsChosen, IsChosenAt, IsToldChosen}
-use Rattle.resumed_nodes.specs.Starting.{records_of}
+use Rattle.resumed_nodes.specs.Starting.{records_at_nodes}
 use Rattle.resumed_nodes.proofs.Restarted.{may_all}
 use Rattle.resumed_nodes.proofs.choosing.chosen_by.Goals as goal
 
@@ -20,7 +20,7 @@ returns-clause-may g c =
 
 pub returns-clause-only : goal.returns-clause-only
 returns-clause-only g c =
-    subst (λ (members : ℕ). IfOk c.chosen_again.result (λ told. All (TellsChosen members (records_of c.args.nodes.now)) told.items)) c.members.ensures
+    subst (λ (members : ℕ). IfOk c.chosen_again.result (λ told. All (TellsChosen members (records_at_nodes c.args.nodes.now)) told.items)) c.members.ensures
     (subst (λ (all : List (List Record)). IfOk c.chosen_again.result (λ told. All (TellsChosen c.members.result all) told.items))
     (ap (map (λ own. own.items)) c.as_slice.ensures.value ∙ c.in_ok-records.ensures)
     c.chosen_again.ensures.only)
@@ -28,7 +28,7 @@ returns-clause-only g c =
 pub returns-clause-chosen : goal.returns-clause-chosen
 returns-clause-chosen g c =
     subst (λ (members : ℕ). IfOk c.chosen_again.result (λ told. (slot : ℕ) (ballot : Ballot) (value : Value)
-    → IsChosenAt members (records_of c.args.nodes.now) slot ballot value → IsToldChosen members told.items slot)) c.members.ensures
+    → IsChosenAt members (records_at_nodes c.args.nodes.now) slot ballot value → IsToldChosen members told.items slot)) c.members.ensures
     (subst (λ (all : List (List Record)). IfOk c.chosen_again.result (λ told. (slot : ℕ) (ballot : Ballot) (value : Value)
     → IsChosenAt c.members.result all slot ballot value → IsToldChosen c.members.result told.items slot))
     (ap (map (λ own. own.items)) c.as_slice.ensures.value ∙ c.in_ok-records.ensures)

@@ -2,9 +2,9 @@ use Rattle.std.proofs.Common.{◌≡◌, length, take, refl, ◌∙◌}
 use Rattle.std.proofs.lemmas.List.{length-map}
 use Rattle.histories.specs.History.{History}
 use Rattle.histories.specs.Following.{Follows, at_first}
-use Rattle.stored_nodes.specs.State.{SeatState}
+use Rattle.stored_nodes.specs.State.{StoredNodeState}
 use Rattle.resumed_nodes.specs.Heard.{heard, learner_calls_from}
-use Rattle.resumed_nodes.specs.Starting.{records_of}
+use Rattle.resumed_nodes.specs.Starting.{records_at_nodes}
 use Rattle.resumed_nodes.proofs.Learned.{goes_further}
 use Rattle.resumed_nodes.proofs.Knowing.{tells_from, start, is_member, stands_up, has_its_records, knows}
 use Rattle.resumed_nodes.proofs.laws.members_know_what_was_acknowledged.Goals as goal
@@ -12,8 +12,8 @@ use Rattle.resumed_nodes.proofs.laws.members_know_what_was_acknowledged.Goals as
 pub returns : goal.returns
 returns g c = λ config nodes told count started recorded tells left before found precedes back place k number text upload is_text step member records there uploads has.
     let n = config.members in
-    let all = records_of nodes in
-    let many : length all ≡ n = length-map nodes (λ (node : SeatState _). node.records) ∙ count in
+    let all = records_at_nodes nodes in
+    let many : length all ≡ n = length-map nodes (λ (node : StoredNodeState _). node.records) ∙ count in
     let begin = start n all told at_first many in
     -- the history that precedes the nodes as they have started
     let (whole, goes_before, clients) = c.members_go_on.ensures config nodes told count started recorded left before found precedes back in

@@ -3,7 +3,7 @@ use Rattle.std.specs.List.{AllZip}
 use Rattle.std.proofs.lemmas.List.{take_all}
 use Rattle.serde_json.specs.View.{view}
 use Rattle.serde_json.specs.declared.value.Value.{Value}
-use Rattle.run_files.specs.declared.script.Call.{Call}
+use Rattle.run_files.specs.declared.script.ScriptCall.{ScriptCall}
 use Rattle.run_files.specs.ScriptFile.{TellsCall}
 use Rattle.run_files.specs.declared.fault.ValueFault.TheVariants.{Unfit, OutOfMemory}
 use Rattle.run_files.proofs.Zipped.{zip_more}
@@ -13,7 +13,7 @@ use Rattle.run_files.proofs.script_words.calls_of.Goals as goal
 pub loop-place-preserved : goal.loop-place-preserved
 loop-place-preserved c =
     let pushed : c.push.new.self.items ≡ c.loop-place.calls.items ++ c.in-Ok.call ∷ [] = search rules in
-    subst (λ (l : List Call). AllZip (TellsCall c.args.nodes) (map view (take (c.loop-place.place + 1) c.args.values.now)) l) (sym pushed)
+    subst (λ (l : List ScriptCall). AllZip (TellsCall c.args.nodes) (map view (take (c.loop-place.place + 1) c.args.values.now)) l) (sym pushed)
     (zip_more (TellsCall c.args.nodes) view c.args.values.now c.loop-place.place c.index-values-place.result c.loop-place.calls.items c.in-Ok.call c.loop-place-test.true c.index-values-place.is c.loop-place.invariant c.in-Ok.ensures.read)
 
 pub returns-in-Err-Unfit : goal.returns-in-Err-Unfit

@@ -16,6 +16,7 @@ returns c = λ history follows lawful.
       reports = c.choices_are_one.ensures.reports;
       first = c.senders_count_once.ensures.first;
       answering = c.majorities_are_of_members.ensures.answering;
+      answering_from = c.majorities_are_of_members.ensures.answering_from;
     } in
     let counted = c.uploads_count_once.ensures in
     record {

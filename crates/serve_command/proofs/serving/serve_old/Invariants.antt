@@ -1,5 +1,5 @@
 use Rattle.resumed_nodes.specs.Heard.{starts_of}
-use Rattle.resumed_nodes.specs.Starting.{records_of}
+use Rattle.resumed_nodes.specs.Starting.{records_at_nodes}
 use Rattle.serve_command.proofs.serving.serve_old.Given as goal
 
 -- the log that was just opened, and nodes that start where they have been started
@@ -7,10 +7,10 @@ abbrev pub ghosts-serve_three_again-J-Naming : goal.ghosts-serve_three_again-J-N
 ghosts-serve_three_again-J-Naming g a = record { book = a.log }
 
 abbrev pub ghosts-serve_three_again-J-Beginning : goal.ghosts-serve_three_again-J-Beginning
-ghosts-serve_three_again-J-Beginning g a = record { start = starts_of (records_of a.old.items) a.told.items }
+ghosts-serve_three_again-J-Beginning g a = record { start = starts_of (records_at_nodes a.old.items) a.told.items }
 
 abbrev pub ghosts-serve_five_again-J-Naming : goal.ghosts-serve_five_again-J-Naming
 ghosts-serve_five_again-J-Naming g a = record { book = a.log }
 
 abbrev pub ghosts-serve_five_again-J-Beginning : goal.ghosts-serve_five_again-J-Beginning
-ghosts-serve_five_again-J-Beginning g a = record { start = starts_of (records_of a.old.items) a.told.items }
+ghosts-serve_five_again-J-Beginning g a = record { start = starts_of (records_at_nodes a.old.items) a.told.items }

@@ -4,7 +4,7 @@ use Rattle.ballots.specs.Ballot.{Ballot as Pair}
 use Rattle.ballots.specs.declared.record.Record.TheVariants as kept_as
 use Rattle.acceptor.specs.Restored.{IsHighestRound}
 use Rattle.proposer.specs.Attempting.{next_ballot}
-use Rattle.proposer.specs.Call.{Start, Begins}
+use Rattle.proposer.specs.Call.{Start, OneSlot, Begins}
 use Rattle.proposer.specs.State.{StateAfter as ProposerAfter}
 use Rattle.agreement.specs.State.{AgreementState, Has}
 use Rattle.agreement.proofs.Parts as parts
@@ -27,8 +27,8 @@ returns-clause-stands c views ballot had next =
           (parts.begun_above views.records c.self.inside.proposer.highest_round ballot has.begun
           (let e : ballot.round ≡ suc (max c.self.inside.seen_round c.self.inside.proposer.highest_round) = ap (λ (b : Pair). b.round) given.1 in omega (arith, e)));
       first_round = has.first_round;
-      proposer_calls = subst (λ (b : Pair). ProposerAfter start (views.proposer_calls ++ Begins (record { slot = c.args.slot; seen_round = views.seen_round; candidate = c.args.candidate; ballot = b }) ∷ []) c.begin.new.self) same
-          (subst (λ (n : ℕ). ProposerAfter start (views.proposer_calls ++ Begins (record { slot = c.args.slot; seen_round = n; candidate = c.args.candidate; ballot = ok.0 }) ∷ []) c.begin.new.self) has.seen
+      proposer_calls = subst (λ (b : Pair). ProposerAfter start (views.proposer_calls ++ Begins (record { slot = c.args.slot; reach = OneSlot; seen_round = views.seen_round; candidate = c.args.candidate; ballot = b }) ∷ []) c.begin.new.self) same
+          (subst (λ (n : ℕ). ProposerAfter start (views.proposer_calls ++ Begins (record { slot = c.args.slot; reach = OneSlot; seen_round = n; candidate = c.args.candidate; ballot = ok.0 }) ∷ []) c.begin.new.self) has.seen
           (stands start views.proposer_calls has.proposer_calls));
       learner_calls = has.learner_calls;
       logged = has.logged;

@@ -1,5 +1,5 @@
 use Rattle.std.proofs.Common.{◌≡◌, [], ◌∷◌, ◌++◌, IfOk, sym, subst}
-use Rattle.learner.specs.Calls.{Call as LearnerCall, slot_of, Learns}
+use Rattle.learner.specs.Calls.{LearnerCall, slot_of, Learns}
 use Rattle.agreement_rules.specs.Views.{Views}
 use Rattle.agreement.specs.State.{AgreementState, Has}
 use Rattle.agreement.specs.Step.{Grows}

@@ -1,6 +1,6 @@
 use Rattle.std.proofs.Common.{List, Option, Bool, Bor, IfSome, refl, sym, ap, subst, ◌∙◌}
 use Rattle.std.specs.Option.{option_map}
-use Rattle.node_parts.specs.histories.specs.Owning.{Entry}
+use Rattle.node_parts.specs.histories.specs.Owning.{OwnEntry}
 use Rattle.node_parts.specs.traces.specs.Traced.{TraceReachesFrom}
 use Rattle.journal.specs.Journaled.{seats_in, Journaled, journaled, HasEntry, MayEnter, EntersOwn}
 use Rattle.journal.specs.Logged.{own_entry, GoesOn}
@@ -20,9 +20,9 @@ invariant_of-self g c =
         subst (λ (rs : List Bool). TraceReachesFrom (seats_in old.start) c.push.new.self.recalled.trace rs there.behind) (sym c.push.ensures.more.recovered_is)
             (c.push.ensures.reaches (seats_in old.start) c.self.inside.kept.recalled.recovered there.before there.behind there.reached there.follows),
       ),
-      logged_some old new c.args.step c.args.more.items c.args.recovered c.self.inside.progress c.self.inside.outrun (option_map (λ (e : Bor Entry). e.now) c.args.own) c.with_own-progress.result.0 c.with_own-progress.result.1 entry
+      logged_some old new c.args.step c.args.more.items c.args.recovered c.self.inside.progress c.self.inside.outrun (option_map (λ (e : Bor OwnEntry). e.now) c.args.own) c.with_own-progress.result.0 c.with_own-progress.result.1 entry
           (λ node member. own_grows c.own_entries_grow.ensures old new c.args.step c.args.more.items c.args.recovered node c.self.invariant.0 entry member)
-          c.self.invariant.1 (c.requires.own ∙ ap (λ (j : Journaled). own_entry j c.args.step c.args.more.items c.args.recovered) (sym c.self.view_is)) (subst (λ (p : Option (List Entry)). GoesOn p c.self.inside.outrun (option_map (λ (e : Bor Entry). e.now) c.args.own) c.with_own-progress.result.0 c.with_own-progress.result.1) c.take.ensures.value (subst (λ (o : Option (List Entry)). GoesOn c.take.result o (option_map (λ (e : Bor Entry). e.now) c.args.own) c.with_own-progress.result.0 c.with_own-progress.result.1) c.take-2.ensures.value c.with_own-progress.ensures)),
+          c.self.invariant.1 (c.requires.own ∙ ap (λ (j : Journaled). own_entry j c.args.step c.args.more.items c.args.recovered) (sym c.self.view_is)) (subst (λ (p : Option (List OwnEntry)). GoesOn p c.self.inside.outrun (option_map (λ (e : Bor OwnEntry). e.now) c.args.own) c.with_own-progress.result.0 c.with_own-progress.result.1) c.take.ensures.value (subst (λ (o : Option (List OwnEntry)). GoesOn c.take.result o (option_map (λ (e : Bor OwnEntry). e.now) c.args.own) c.with_own-progress.result.0 c.with_own-progress.result.1) c.take-2.ensures.value c.with_own-progress.ensures)),
       c.push.ensures.whole ∙ c.self.invariant.2,
     )
 

@@ -2,7 +2,7 @@ use Rattle.std.proofs.Common.{◌+◌, ◌≤◌, List, length, Ok, refl, sym, s
 use Rattle.agreement_rules.specs.Views.{Views}
 use Rattle.histories.specs.Due.{Deliver}
 use Rattle.ballots.specs.declared.value.Value.{Value}
-use Rattle.table_versions.specs.State.{values_limit, IsReadyFor}
+use Rattle.table_versions.specs.State.{agreed_values_limit, IsReadyFor}
 use Rattle.node_core.specs.declared.plan.Planned.TheVariants.{Steps, Learns}
 use Rattle.node_core.specs.State.{NodeState, NodeHas}
 use Rattle.node_core.specs.Plans.{PlanGives}
@@ -62,7 +62,7 @@ returns-then-is_empty-clause-same c =
 pub ready_with-requires : goal.ready_with-requires
 ready_with-requires c =
     let has = c.self.invariant in
-    subst (λ (l : List Value). c.self.inside.tables.taken + length l ≤ values_limit) (sym c.as_slice-grown.ensures.value)
+    subst (λ (l : List Value). c.self.inside.tables.taken + length l ≤ agreed_values_limit) (sym c.as_slice-grown.ensures.value)
     (ready_fits c.learned_where_chosen_or_decided.ensures.learned c.learned_where_chosen_or_decided.ensures.settled c.states_are_what_was_learned.ensures.decided
     (node_of c.self.inside.agreement c.self.inside.tables c.self.inside.waiting) has.0 has.1 c.args.message c.in_ok-step.step
     c.in_ok-step.ensures.gives.0 (c.in_ok-step.ensures.gives.1 has.0 has.1.agrees))

@@ -1,6 +1,6 @@
-use Rattle.std.proofs.Common.{arith, ◌≡◌, List, [], ◌∷◌, ◌++◌, sym, subst}
+use Rattle.std.proofs.Common.{arith, refl, ◌≡◌, [], ◌∷◌, ◌++◌, sym, subst}
 use Rattle.std.proofs.lemmas.Grind.{common_steps}
-use Rattle.proposer.specs.Call.{Start, Begun, Call, Begins}
+use Rattle.proposer.specs.Call.{OneSlot, Begun, Begins}
 use Rattle.proposer.specs.Attempting.{next_ballot}
 use Rattle.proposer.specs.State.{ProposerState, StateAfter}
 use Rattle.proposer.proofs.Standing.{stands_after_begin}
@@ -9,20 +9,20 @@ use Rattle.proposer.proofs.proposer.Proposer.begin.Goals as goal
 pub invariant_of-self : goal.invariant_of-self
 invariant_of-self c =
     let old : ProposerState = record { me = c.self.inside.me; members = c.self.inside.members; highest_round = c.self.inside.highest_round; attempt = c.self.inside.attempt } in
-    let begun : Begun = record { slot = c.args.slot; seen_round = c.args.seen_round; candidate = c.args.candidate; ballot = c.in_ok-ballot.ballot } in
+    let begun : Begun = record { slot = c.args.slot; reach = OneSlot; seen_round = c.args.seen_round; candidate = c.args.candidate; ballot = c.in_ok-ballot.ballot } in
     record {
       start = c.self.invariant.start;
       calls = c.self.invariant.calls ++ Begins begun ∷ [];
       after = stands_after_begin c.self.invariant.start c.self.invariant.calls old begun c.new.result c.round-self-inside.result c.self.invariant.after
           (subst (λ (h : ProposerState). c.in_ok-ballot.ballot ≡ next_ballot h.me h.highest_round c.args.seen_round) (sym c.self.view_is) c.in_ok-ballot.ensures.ballot)
-          c.round-self-inside.ensures.value c.new.ensures.slot c.new.ensures.ballot c.new.ensures.counts;
+          c.round-self-inside.ensures.value c.new.ensures.slot c.new.ensures.ballot c.new.ensures.counts (λ members. rw c.new.ensures.ahead refl);
     }
 
 pub returns-clause-stands : goal.returns-clause-stands
 returns-clause-stands c = λ start calls stands.
     stands_after_begin start calls (record { me = c.self.inside.me; members = c.self.inside.members; highest_round = c.self.inside.highest_round; attempt = c.self.inside.attempt })
-    (record { slot = c.args.slot; seen_round = c.args.seen_round; candidate = c.args.candidate; ballot = c.in_ok-ballot.ballot }) c.new.result c.round-self-inside.result
-    (subst (StateAfter start calls) (sym c.self.view_is) stands) (subst (λ (h : ProposerState). c.in_ok-ballot.ballot ≡ next_ballot h.me h.highest_round c.args.seen_round) (sym c.self.view_is) c.in_ok-ballot.ensures.ballot) c.round-self-inside.ensures.value c.new.ensures.slot c.new.ensures.ballot c.new.ensures.counts
+    (record { slot = c.args.slot; reach = OneSlot; seen_round = c.args.seen_round; candidate = c.args.candidate; ballot = c.in_ok-ballot.ballot }) c.new.result c.round-self-inside.result
+    (subst (StateAfter start calls) (sym c.self.view_is) stands) (subst (λ (h : ProposerState). c.in_ok-ballot.ballot ≡ next_ballot h.me h.highest_round c.args.seen_round) (sym c.self.view_is) c.in_ok-ballot.ensures.ballot) c.round-self-inside.ensures.value c.new.ensures.slot c.new.ensures.ballot c.new.ensures.counts (λ members. rw c.new.ensures.ahead refl)
 
 pub returns-clause-opens : goal.returns-clause-opens
 returns-clause-opens c = grind (arith, common_steps) steps 600000

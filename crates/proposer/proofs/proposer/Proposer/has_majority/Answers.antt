@@ -1,4 +1,4 @@
-use Rattle.std.proofs.Common.{ℕ, sym, subst}
+use Rattle.std.proofs.Common.{sym, subst}
 use Rattle.proposer.specs.State.{ProposerState, Holds, StateAfter}
 use Rattle.proposer.proofs.Majority.{majority_where_gone, gone_where_majority, none_where_closed}
 use Rattle.proposer.proofs.proposer.Proposer.has_majority.Goals as goal

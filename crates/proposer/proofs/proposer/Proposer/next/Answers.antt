@@ -1,15 +1,15 @@
-use Rattle.std.proofs.Common.{arith}
-use Rattle.std.proofs.lemmas.Grind.{common_steps}
+use Rattle.std.proofs.Common.{sym, subst}
+use Rattle.proposer.specs.State.{ProposerState, StateAfter}
 use Rattle.proposer.proofs.proposer.Proposer.next.Goals as goal
 
-pub returns-in-Some-clause-spent : goal.returns-in-Some-clause-spent
-returns-in-Some-clause-spent c = grind (arith, common_steps) steps 600000
+pub returns-in-Some : goal.returns-in-Some
+returns-in-Some c = λ start calls stands.
+    let state : ProposerState = record { me = c.self.inside.me; members = c.self.inside.members; highest_round = c.self.inside.highest_round; attempt = c.self.inside.attempt } in
+    let was : StateAfter start calls state = subst (StateAfter start calls) (sym c.self.view_is) stands in
+    c.next_for.ensures start.members calls (rw c.in-Some.is at was.attempt)
 
-pub returns-in-Some-clause-ballot : goal.returns-in-Some-clause-ballot
-returns-in-Some-clause-ballot c = grind (arith, common_steps) steps 600000
-
-pub returns-in-None-clause-spent : goal.returns-in-None-clause-spent
-returns-in-None-clause-spent c = grind (arith, common_steps) steps 600000
-
-pub returns-in-None-clause-ballot : goal.returns-in-None-clause-ballot
-returns-in-None-clause-ballot c = grind (arith, common_steps) steps 600000
+pub returns-in-None : goal.returns-in-None
+returns-in-None c = λ start calls stands slot may.
+    let state : ProposerState = record { me = c.self.inside.me; members = c.self.inside.members; highest_round = c.self.inside.highest_round; attempt = c.self.inside.attempt } in
+    let was : StateAfter start calls state = subst (StateAfter start calls) (sym c.self.view_is) stands in
+    (rw c.in-None.is at was.attempt) may.begun may.since may.open_is

@@ -1,4 +1,4 @@
-use Rattle.std.proofs.Common.{◌≡◌, ℕ, ◌++◌, ◌∷◌, [], refl, sym, ap, subst, ◌∙◌}
+use Rattle.std.proofs.Common.{ℕ, ◌++◌, ◌∷◌, [], refl, sym, ap, subst, ◌∙◌}
 use Rattle.proposer.specs.Call.{Promise, Promises}
 use Rattle.proposer.specs.Attempting.{Answers}
 use Rattle.proposer.specs.State.{ProposerState, HoldsOpen, attempt_of, StateAfter}
@@ -52,5 +52,5 @@ returns-clause-attempt c =
     (subst (λ (m : ℕ). HoldsOpen m (calls ++ Promises promise ∷ []) c.count_in.new.held) was.members
     (c.count_in.ensures.stands calls (subst (λ (m : ℕ). HoldsOpen m calls c.self.inside.attempt) (sym was.members) was.attempt))) in
     attempts_are_one (calls ++ Promises promise ∷ []) (attempt_of new) (attempt_of old) (state_is_open start (calls ++ Promises promise ∷ []) new now)
-    (attempt_goes_on calls promise (attempt_of old) (state_is_open start calls old was))
+    (attempt_goes_on calls (Promises promise) (attempt_of old) refl (λ begun. refl) (state_is_open start calls old was))
     ∙ ap attempt_of c.self.view_is

@@ -1,7 +1,7 @@
 use Rattle.std.proofs.Common.{ℕ, List, [], ◌∷◌, ◌++◌, refl, sym, ap, subst, ◌∙◌}
 use Rattle.journal.specs.parts.histories.specs.Following.{IsUp, recovered_in}
 use Rattle.journal.specs.parts.agreement_rules.specs.Views.{started_with}
-use Rattle.journal.specs.parts.histories.specs.Owning.{Entry}
+use Rattle.journal.specs.parts.histories.specs.Owning.{OwnEntry}
 use Rattle.journal.specs.Journaled.{seats_in, Journaled, MayEnter}
 use Rattle.seats.specs.Entries.{restart_step, restart_entry}
 use Rattle.seats.specs.State.{RunningSeat}
@@ -45,7 +45,7 @@ invariant_of-self-2 g c =
       config_is = refl;
       start_is = refl;
       node_is = refl;
-      own_is = entered.3 ∙ ap (λ (es : List Entry). es ++ restart_entry view.node.me was ∷ []) c.make_room.ensures.own.entries_are;
+      own_is = entered.3 ∙ ap (λ (es : List OwnEntry). es ++ restart_entry view.node.me was ∷ []) c.make_room.ensures.own.entries_are;
     } in
     let left = leaves_restart view new node mid c.enter_restart-receipt.new.journal was led.0 open_mid.0.0 led.1 gives.stands gives.none_in_doubt gives.placed gives.me_is gives.config_is more entered.0 entered.1 in
     let me_is = c.self.invariant.0 ∙ sym gives.me_is in

@@ -1,5 +1,5 @@
 use Rattle.std.proofs.Common.{Result, ◌≡◌, ℕ, arith, length, vec_len, List, [], ◌∷◌, ◌++◌, ap, false, Some, Ok, Err, refl, sym, subst, ◌∙◌}
-use Rattle.journal.specs.parts.histories.specs.Owning.{Entry}
+use Rattle.journal.specs.parts.histories.specs.Owning.{OwnEntry}
 use Rattle.journal.specs.Journaled.{seats_in, Journaled}
 use Rattle.journal.specs.parts.histories.specs.Following as following
 use Rattle.seats.specs.declared.fault.SeatFault.TheVariants as fault
@@ -82,7 +82,7 @@ invariant_of-self-in-Ok-take g c =
       config_is = refl;
       start_is = refl;
       node_is = refl;
-      own_is = entered.3 ∙ ap (λ (es : List Entry). es ++ done_entry view.node.me c.args.prepared.input (length mid.trace.sent) sends ∷ []) c.made_ready.ensures.own.entries_are;
+      own_is = entered.3 ∙ ap (λ (es : List OwnEntry). es ++ done_entry view.node.me c.args.prepared.input (length mid.trace.sent) sends ∷ []) c.made_ready.ensures.own.entries_are;
     } in
     let left = leaves_done view new node mid c.enter_done-receipt.new.journal c.args.prepared.input sends open_mid.0.0 sent done more entered.0 entered.1 in
     let me_is = c.self.invariant.0 ∙ sym done.me_is in (
@@ -114,7 +114,7 @@ returns-in-Ok-take-clause-gives g c =
       config_is = refl;
       start_is = refl;
       node_is = refl;
-      own_is = entered.3 ∙ ap (λ (es : List Entry). es ++ done_entry view.node.me c.args.prepared.input (length mid.trace.sent) sends ∷ []) c.made_ready.ensures.own.entries_are;
+      own_is = entered.3 ∙ ap (λ (es : List OwnEntry). es ++ done_entry view.node.me c.args.prepared.input (length mid.trace.sent) sends ∷ []) c.made_ready.ensures.own.entries_are;
     } in
     let given = take_gives view new node mid c.enter_done-receipt.new.journal c.args.prepared sends c.enter_done-receipt.result open_mid held done more entered.0 entered.1 entered.2 c.log.ensures.log in
     subst (λ (s : RunningSeat g.row.S.Denot). TakeGives s new c.args.journal.now c.enter_done-receipt.new.journal c.args.prepared (Ok c.enter_done-receipt.result)) c.self.view_is
@@ -142,7 +142,7 @@ returns-in-Ok-take-clause-others g c =
       config_is = refl;
       start_is = refl;
       node_is = refl;
-      own_is = entered.3 ∙ ap (λ (es : List Entry). es ++ done_entry view.node.me c.args.prepared.input (length mid.trace.sent) sends ∷ []) c.made_ready.ensures.own.entries_are;
+      own_is = entered.3 ∙ ap (λ (es : List OwnEntry). es ++ done_entry view.node.me c.args.prepared.input (length mid.trace.sent) sends ∷ []) c.made_ready.ensures.own.entries_are;
     } in
     subst (λ (s : RunningSeat g.row.S.Denot). OthersAgree s.node.me c.args.journal.now c.enter_done-receipt.new.journal) c.self.view_is
     (others_before c.args.journal.now mid c.enter_done-receipt.new.journal view.node.me c.made_ready.ensures.journal
@@ -190,7 +190,7 @@ invariant_of-self-in-Err-take g c =
       config_is = refl;
       start_is = refl;
       node_is = refl;
-      own_is = entered.2 ∙ ap (λ (es : List Entry). es ++ cut_entry cut c.args.prepared.input ∷ []) c.made_ready.ensures.own.entries_are;
+      own_is = entered.2 ∙ ap (λ (es : List OwnEntry). es ++ cut_entry cut c.args.prepared.input ∷ []) c.made_ready.ensures.own.entries_are;
     } in
     let left = leaves_cut view new node mid c.enter_cut.new.journal c.args.prepared.input cut open_mid.0.0 sent entered.1 broken more entered.3 entered.4 in
     let me_is = c.self.invariant.0 ∙ sym broken.me_is in
@@ -221,7 +221,7 @@ returns-in-Err-take-clause-gives g c =
       config_is = refl;
       start_is = refl;
       node_is = refl;
-      own_is = entered.2 ∙ ap (λ (es : List Entry). es ++ cut_entry cut c.args.prepared.input ∷ []) c.made_ready.ensures.own.entries_are;
+      own_is = entered.2 ∙ ap (λ (es : List OwnEntry). es ++ cut_entry cut c.args.prepared.input ∷ []) c.made_ready.ensures.own.entries_are;
     } in
     let given = cut_gives view new node mid c.enter_cut.new.journal c.args.prepared cut c.in-Err-take.fault open_mid held entered.1 broken more entered.3 entered.4 c.log-in-Err-take.ensures.log in
     subst (λ (s : RunningSeat g.row.S.Denot). TakeGives s new c.args.journal.now c.enter_cut.new.journal c.args.prepared (Err (fault.Store c.in-Err-take.fault))) c.self.view_is
@@ -247,7 +247,7 @@ returns-in-Err-take-clause-others g c =
       config_is = refl;
       start_is = refl;
       node_is = refl;
-      own_is = entered.2 ∙ ap (λ (es : List Entry). es ++ cut_entry cut c.args.prepared.input ∷ []) c.made_ready.ensures.own.entries_are;
+      own_is = entered.2 ∙ ap (λ (es : List OwnEntry). es ++ cut_entry cut c.args.prepared.input ∷ []) c.made_ready.ensures.own.entries_are;
     } in
     subst (λ (s : RunningSeat g.row.S.Denot). OthersAgree s.node.me c.args.journal.now c.enter_cut.new.journal) c.self.view_is
     (others_before c.args.journal.now mid c.enter_cut.new.journal view.node.me c.made_ready.ensures.journal

@@ -2,7 +2,7 @@ use Rattle.std.proofs.Common.{subst}
 use Rattle.histories.specs.Event as events
 use Rattle.histories.specs.Following.{GetGivesIfAble}
 use Rattle.node_events.specs.Told.{result_of}
-use Rattle.stored_nodes.specs.State.{SeatState}
+use Rattle.stored_nodes.specs.State.{StoredNodeState}
 use Rattle.stored_nodes.specs.Steps.{QuietApplies}
 use Rattle.stored_nodes.proofs.Applying.{answered, get_counts}
 use Rattle.stored_nodes.specs.contracts.stored_node.StoredNode.{the_view}
@@ -13,7 +13,7 @@ returns-in-Some g c =
     let given = result_of c.version_asked.result in
     let table = c.args.ticket.now.table in
     let version = c.args.ticket.now.version in
-    subst (λ (s : SeatState g.row.S.Denot). QuietApplies s s (events.Get s.me table version) given) c.self.view_is
+    subst (λ (s : StoredNodeState g.row.S.Denot). QuietApplies s s (events.Get s.me table version) given) c.self.view_is
     (λ before views placed up. answered (the_view g.row.S g.S.Stable c.self.inside) before views given (λ uploads. GetGivesIfAble uploads table version)
     placed up c.in-Some.node c.in-Some.is (get_counts table version given)
     (λ uploads has of. c.version_asked.ensures views uploads has of))

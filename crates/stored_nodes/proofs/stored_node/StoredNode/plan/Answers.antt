@@ -1,6 +1,6 @@
 use Rattle.std.proofs.Common.{Some, IfOk, refl, subst}
 use Rattle.node_core.specs.Inputs.{input_of}
-use Rattle.stored_nodes.specs.State.{SeatState}
+use Rattle.stored_nodes.specs.State.{StoredNodeState}
 use Rattle.stored_nodes.specs.Parts.{PlanAnswers, IsUpFor, StandsStill}
 use Rattle.stored_nodes.proofs.Planning.{stands_still, planned_for, plan_answers, refusal_answers, planned_is_up, refused_is_up}
 use Rattle.stored_nodes.specs.contracts.stored_node.StoredNode.{the_view}
@@ -9,8 +9,8 @@ use Rattle.stored_nodes.proofs.stored_node.StoredNode.plan.Goals as goal
 
 pub returns-clause-gives : goal.returns-clause-gives
 returns-clause-gives g c =
-    let old : SeatState g.row.S.Denot = the_view g.row.S g.S.Stable c.self.inside in
-    let left : SeatState g.row.S.Denot = the_view g.row.S g.S.Stable (record {
+    let old : StoredNodeState g.row.S.Denot = the_view g.row.S g.S.Stable c.self.inside in
+    let left : StoredNodeState g.row.S.Denot = the_view g.row.S g.S.Stable (record {
       alloc = c.self.inside.alloc;
       hashing = c.self.inside.hashing;
       me = c.self.inside.me;
@@ -19,7 +19,7 @@ returns-clause-gives g c =
       node = Some c.plan.new.self;
     }) in
     let input = input_of c.args.input in
-    subst (λ (s : SeatState g.row.S.Denot). PlanAnswers s left input c.match-plan.result) c.self.view_is
+    subst (λ (s : StoredNodeState g.row.S.Denot). PlanAnswers s left input c.match-plan.result) c.self.view_is
     (elim c.match-plan.branch as (λ _. PlanAnswers old left input c.match-plan.result) [
       | in-Ok w ↦
           plan_answers old left c.in-Some.node input w.in-Ok.plan c.match-plan.result c.in-Some.is w.result-is
@@ -31,7 +31,7 @@ returns-clause-gives g c =
 
 pub returns-clause-can : goal.returns-clause-can
 returns-clause-can g c =
-    let left : SeatState g.row.S.Denot = the_view g.row.S g.S.Stable (record {
+    let left : StoredNodeState g.row.S.Denot = the_view g.row.S g.S.Stable (record {
       alloc = c.self.inside.alloc;
       hashing = c.self.inside.hashing;
       me = c.self.inside.me;
@@ -46,8 +46,8 @@ returns-clause-can g c =
 
 pub returns-clause-same : goal.returns-clause-same
 returns-clause-same g c =
-    let old : SeatState g.row.S.Denot = the_view g.row.S g.S.Stable c.self.inside in
-    let left : SeatState g.row.S.Denot = the_view g.row.S g.S.Stable (record {
+    let old : StoredNodeState g.row.S.Denot = the_view g.row.S g.S.Stable c.self.inside in
+    let left : StoredNodeState g.row.S.Denot = the_view g.row.S g.S.Stable (record {
       alloc = c.self.inside.alloc;
       hashing = c.self.inside.hashing;
       me = c.self.inside.me;
@@ -55,5 +55,5 @@ returns-clause-same g c =
       kept = c.self.inside.kept;
       node = Some c.plan.new.self;
     }) in
-    subst (λ (s : SeatState g.row.S.Denot). StandsStill s left) c.self.view_is
+    subst (λ (s : StoredNodeState g.row.S.Denot). StandsStill s left) c.self.view_is
     (stands_still old left c.in-Some.node c.plan.new.self c.in-Some.is refl c.plan.ensures.me c.plan.ensures.config refl refl refl refl c.plan.ensures.same refl)
