@@ -2,6 +2,7 @@ pub mod Zipped
 pub mod Told
 pub mod Bits
 pub mod Rounding
+pub mod Halving
 pub mod OtherFloats
 pub mod One
 pub mod Texts

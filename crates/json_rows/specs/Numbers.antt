@@ -1,6 +1,6 @@
 -- Whole numbers and floats by their bytes: Apache Arrow, "Arrow Columnar Format", "Physical memory layout" (the lowest
 -- byte first, two's complement, IEEE 754), and RFC 8259, section 6. Floats that are no finite numbers are texts.
-use Rattle.std.specs.Prelude.{◌≡◌, ◌⊎◌, ◌≤◌, ◌<◌, ◌*◌, ◌^◌, ℕ, ℤ, pos, ◌-ℤ◌, Bool, true, false, List, Float, from_bits, Option, Some, option_map, option_and_then}
+use Rattle.std.specs.Prelude.{◌≡◌, ◌⊎◌, ◌≤◌, ◌<◌, ◌*◌, ◌^◌, ℕ, ℤ, pos, ◌-ℤ◌, unsigned_abs, Bool, true, false, List, Float, from_bits, Option, Some, IfSome, option_map, option_and_then}
 use Rattle.std.specs.Float.{Format, binary32, binary64, float_is_finite, round_to_format}
 use Rattle.byteorder.specs.Endian.{little_bytes}
 use Rattle.serde_json.specs.Data.{Data}
@@ -50,16 +50,34 @@ pub record AreBytesOf (format : Format) (size : ℕ) (value : Float) (bytes : Li
   pub finite : float_is_finite value ≡ true
   pub bytes_are : bytes ≡ little_bytes size stands
 
--- the value is a number, of which these are the bytes of the nearest float of eight bytes
+-- The number is one below the limit by a power of two. A float whose digits are below that limit holds such a whole number
+-- without a change, and no other (IEEE 754, section 3.3: its exponents reach far beyond 64 bits).
+abbrev pub IsExactBelow : (limit number : ℕ) → Type 0
+IsExactBelow limit number = (digits exponent : ℕ) × (digits < limit) × (number ≡ digits * 2 ^ exponent)
+
+-- the value is no whole number, or one that such a float holds without a change
+abbrev pub IsHeldBelow : ℕ → Data → Type 0
+IsHeldBelow limit d = IfSome (whole_told d) (λ whole. IsExactBelow limit (unsigned_abs whole))
+
+-- what the digits of floats of eight bytes, and of four, are below (IEEE 754, table 3.5: 53 and 24 bits)
+abbrev pub double_limit : ℕ
+double_limit = 9007199254740992
+
+abbrev pub single_limit : ℕ
+single_limit = 16777216
+
+-- The value is a number, of which these are the bytes of the nearest float of eight bytes. A whole number is that float.
 pub record TellsFiniteDouble (d : Data) (bytes : List ℕ) : Type 0 where
   pub double : Float
   pub told : float_told d ≡ Some double
+  pub held : IsHeldBelow double_limit d
   pub stands : AreBytesOf binary64 8 double bytes
 
--- and of that one rounded to four bytes
+-- and of that one rounded to four bytes, which a whole number is too
 pub record TellsFiniteSingle (d : Data) (bytes : List ℕ) : Type 0 where
   pub double : Float
   pub told : float_told d ≡ Some double
+  pub held : IsHeldBelow single_limit d
   pub finite : float_is_finite double ≡ true
   pub stands : AreBytesOf binary32 4 (round_to_format binary32 double) bytes
 

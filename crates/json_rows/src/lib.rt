@@ -7,6 +7,7 @@
 //! those the rows of one batch at most: what is read of the lines that were written of a batch are its rows.
 #![tactic(auto)]
 
+mod exact;
 mod fault;
 mod flat;
 mod flat_writing;

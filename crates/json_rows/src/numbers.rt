@@ -39,7 +39,7 @@ pub(crate) fn half_of(width: BitWidth) -> u64
 }
 
 /// The whole number that a value is.
-fn whole_of(value: &Value) -> Option<i128>
+pub(crate) fn whole_of(value: &Value) -> Option<i128>
     ensures { result ≡ whole_told (view value.now) }
 {
     match value.as_u64() {

@@ -4,7 +4,7 @@ use Rattle.std.specs.Float.{float_is_finite, round_to_format}
 use Rattle.byteorder.specs.Endian.{little_bytes}
 use Rattle.serde_json.specs.Data.{number, float}
 use lib.Ieee.{fits, binary32}
-use Rattle.json_rows.specs.Numbers.{AreBytesOf, TellsFiniteSingle, float_told}
+use Rattle.json_rows.specs.Numbers.{AreBytesOf, TellsFiniteSingle, IsHeldBelow, float_told, single_limit}
 use Rattle.json_rows.proofs.Rounding.{rounded_stays}
 use Rattle.json_rows.proofs.Texts.{written_weaker}
 use Rattle.json_rows.proofs.float_writing.write_finite_single.Goals as goal
@@ -28,6 +28,7 @@ returns-clause-written c =
     (λ d is. record {
       double = c.from.result;
       told = ap float_told is;
+      held = subst (IsHeldBelow single_limit) (sym is) tt;
       finite = ap float_is_finite c.from.ensures ∙ finite;
       stands = subst (λ (y : Float). AreBytesOf binary32 4 y bytes) (sym stays) stands;
     }) (omega arith) c.in_ok-put_float.ensures.written

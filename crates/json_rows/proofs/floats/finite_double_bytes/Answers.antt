@@ -11,6 +11,7 @@ returns-clause-read c =
     record {
       double = x;
       told = sym c.in-Some.ensures;
+      held = search rules;
       stands = record {
         stands = to_bits binary64 x;
         within = to_bits-lt binary64 x held;

@@ -13,6 +13,7 @@ returns-clause-read c =
     record {
       double = c.in-Some.double;
       told = sym c.in-Some.ensures;
+      held = search rules;
       finite = sym c.if-not-is_finite.ensures.value;
       stands = record {
         stands = to_bits binary32 x;
