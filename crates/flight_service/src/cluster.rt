@@ -1,6 +1,4 @@
 //! Clusters whose nodes have no records yet.
-//!
-//! What makes the seats of a cluster is written for one kind of store each time, since the size of an array of seats has to be known.
 
 ghost use Rattle.std.specs.Prelude.{◌≡◌, [], IfOk};
 
@@ -98,13 +96,16 @@ pub fn open_counting_seat<S: Stable + Drop, J: Beginning>(
     }
 }
 
-/// The cluster of these nodes, and what the worker of each reads. [`ServiceFault::Members`] says that they are none.
+/// The cluster of these nodes, and what the worker of each reads. [`ServiceFault::Members`] says that they are none, or not so many.
 pub fn start_nodes<R: Wait, S: Stable + Drop, J: Beginning, M: Retention, const N: usize>(
     rt: &R,
     alloc: Global,
-    seats: [Mutex<Seat<S, J, M>>; N],
+    seats: Vec<Mutex<Seat<S, J, M>>>,
     journal: Journal<J, M>,
 ) -> Result<Started<N, S, J, M>, ServiceFault> {
+    let Ok(seats) = <[Mutex<Seat<S, J, M>>; N]>::try_from(seats) else {
+        return Err(ServiceFault::Members);
+    };
     let Some(cluster) = Cluster::new(rt, seats, journal) else {
         return Err(ServiceFault::Members);
     };
@@ -123,46 +124,28 @@ fn in_memory<J: Beginning>(
     open_seat(alloc, hashing, number, config, MemoryStable::new(alloc))
 }
 
-/// Three nodes whose records are in memory. [`ServiceFault::OutOfMemory`] says that memory was refused.
-pub fn three_nodes<R: Wait, J: Beginning>(
+/// So many nodes whose records are in memory. [`ServiceFault::OutOfMemory`] says that memory was refused, and
+/// [`ServiceFault::Members`] that there can't be so many nodes.
+pub fn nodes_in_memory<R: Wait, J: Beginning, const N: usize>(
     rt: &R,
     alloc: Global,
     hashing: RandomState,
     log: Opened<OwnEntry>,
-) -> Result<Started<3, MemoryStable, J>, ServiceFault>
+) -> Result<Started<N, MemoryStable, J>, ServiceFault>
     requires named { log ≡ J.book }
     requires start { J.start ≡ [] }
 {
-    let config = config_of(3)?;
-    let seats = [
-        in_memory(alloc, hashing, 0, config)?,
-        in_memory(alloc, hashing, 1, config)?,
-        in_memory(alloc, hashing, 2, config)?,
-    ];
-    if !config.is_within_limits() {
+    let Ok(count) = u8::try_from(N) else {
         return Err(ServiceFault::Members);
+    };
+    let config = config_of(count)?;
+    let mut seats = Vec::new(alloc);
+    for number in 0..count {
+        let seat = in_memory(alloc, hashing, number, config)?;
+        if seats.push(seat).is_err() {
+            return Err(ServiceFault::OutOfMemory);
+        }
     }
-    start_nodes(rt, alloc, seats, Journal::with_log(alloc, config, log))
-}
-
-/// Five nodes whose records are in memory. [`ServiceFault::OutOfMemory`] says that memory was refused.
-pub fn five_nodes<R: Wait, J: Beginning>(
-    rt: &R,
-    alloc: Global,
-    hashing: RandomState,
-    log: Opened<OwnEntry>,
-) -> Result<Started<5, MemoryStable, J>, ServiceFault>
-    requires named { log ≡ J.book }
-    requires start { J.start ≡ [] }
-{
-    let config = config_of(5)?;
-    let seats = [
-        in_memory(alloc, hashing, 0, config)?,
-        in_memory(alloc, hashing, 1, config)?,
-        in_memory(alloc, hashing, 2, config)?,
-        in_memory(alloc, hashing, 3, config)?,
-        in_memory(alloc, hashing, 4, config)?,
-    ];
     if !config.is_within_limits() {
         return Err(ServiceFault::Members);
     }

@@ -1,7 +1,7 @@
 //! The nodes of a cluster, served over TCP: a port a node, a thread a connection, and one call a connection.
 //!
 //! ```text
-//! let (nodes, notes) = three_nodes(&rt, alloc, hashing, log)?;                // their records are in memory
+//! let (nodes, notes) = nodes_in_memory::<R, J, 3>(&rt, alloc, hashing, log)?; // their records are in memory
 //! let (service, workers) = open_service(rt, alloc, nodes, NoReceipts, notes, 42_000, 3, None)?;   // node k at port 42000 + k
 //! service.nodes().stop(&rt);
 //! join_all(&rt, workers);
@@ -29,7 +29,7 @@ mod timely;
 mod works;
 
 pub use cluster::{
-    Started, config_of, five_nodes, open_counting_seat, open_seat, start_nodes, three_nodes,
+    Started, config_of, nodes_in_memory, open_counting_seat, open_seat, start_nodes,
 };
 pub use cluster_backend::{
     AllReceipts, Beginning, Caller, Cluster, ClusterBackend, Config, Gate, Journal, NoReceipts,

@@ -12,7 +12,7 @@ use crate::fault::{PlayFault, Unplayed, not_served};
 use crate::status::{FAILURE, SUCCESS};
 use crossbeam_channel::Receiver;
 use flight_service::{
-    AllReceipts, Beginning, Note, OwnEntry, Works, five_nodes, join_all, open_service, three_nodes,
+    AllReceipts, Beginning, Note, OwnEntry, Works, join_all, nodes_in_memory, open_service,
 };
 use ghost_log::Opened;
 use grpc_frames::transfer::put;
@@ -99,27 +99,24 @@ pub fn script_file<
         Err(ScriptFault::OutOfMemory) => return Err(PlayFault::Unplayed(Unplayed::OutOfMemory)),
     };
     let calls = script.calls.as_slice();
-    let played = match script.nodes {
-        ClusterSize::Three => {
-            play_at_three::<R, W, Brand>(rt, alloc, hashing, calls, w, Opened::new())
-        }
-        ClusterSize::Five => play_at_five::<R, W, Brand>(
-            rt,
-            alloc,
-            hashing,
-            calls,
-            w,
-            Opened::new(),
-        ),
-    };
+    let played = play_at_new::<R, W, Brand>(
+        rt,
+        alloc,
+        hashing,
+        script.nodes,
+        calls,
+        w,
+        Opened::new(),
+    );
     match played {
         Ok(ok) => Ok(ok),
         Err(fault) => Err(PlayFault::Unplayed(fault)),
     }
 }
 
-// Plays the calls at three nodes, whose journal has this log.
-fn play_at_three<
+// Plays the calls at so many new nodes, whose journal has this log. Their number is written out where threads take them: what a thread takes
+// lives for `'static`, and there is no saying so of a type whose size is a parameter.
+fn play_at_new<
     R: Net<Listener = TcpListener, Stream = TcpStream>
         + Threads
         + Wait
@@ -133,6 +130,7 @@ fn play_at_three<
     rt: R,
     alloc: Global,
     hashing: RandomState,
+    size: ClusterSize,
     calls: &[ScriptCall],
     w: &mut W,
     log: Opened<OwnEntry>,
@@ -142,39 +140,15 @@ fn play_at_three<
     ensures { IfOk result (λ ok. WritesAll (W.contents w.old) (length calls.now)
         (if ok then confirmed_line else unconfirmed_line) (W.contents w.new)) }
 {
-    match three_nodes::<R, J>(&rt, alloc, hashing, log) {
-        Ok((nodes, notes)) => play_at(rt, alloc, nodes, notes, 3, calls, w),
-        Err(fault) => Err(not_served(fault)),
-    }
-}
-
-// Plays the calls at five nodes, whose journal has this log.
-fn play_at_five<
-    R: Net<Listener = TcpListener, Stream = TcpStream>
-        + Threads
-        + Wait
-        + Clock
-        + Copy
-        + Send
-        + 'static,
-    W: Write,
-    J: Beginning + Send + Sync + 'static,
->(
-    rt: R,
-    alloc: Global,
-    hashing: RandomState,
-    calls: &[ScriptCall],
-    w: &mut W,
-    log: Opened<OwnEntry>,
-) -> Result<bool, Unplayed>
-    requires named { log ≡ J.book }
-    requires start { J.start ≡ [] }
-    ensures { IfOk result (λ ok. WritesAll (W.contents w.old) (length calls.now)
-        (if ok then confirmed_line else unconfirmed_line) (W.contents w.new)) }
-{
-    match five_nodes::<R, J>(&rt, alloc, hashing, log) {
-        Ok((nodes, notes)) => play_at(rt, alloc, nodes, notes, 5, calls, w),
-        Err(fault) => Err(not_served(fault)),
+    match size {
+        ClusterSize::Three => match nodes_in_memory::<R, J, 3>(&rt, alloc, hashing, log) {
+            Ok((nodes, notes)) => play_at(rt, alloc, nodes, notes, 3, calls, w),
+            Err(fault) => Err(not_served(fault)),
+        },
+        ClusterSize::Five => match nodes_in_memory::<R, J, 5>(&rt, alloc, hashing, log) {
+            Ok((nodes, notes)) => play_at(rt, alloc, nodes, notes, 5, calls, w),
+            Err(fault) => Err(not_served(fault)),
+        },
     }
 }
 

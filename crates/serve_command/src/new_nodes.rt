@@ -66,48 +66,30 @@ pub(crate) fn journal_of<J: Beginning>(
     }
 }
 
-/// Three nodes over these stores, the last node's first.
-pub(crate) fn three_nodes<R: Wait, J: Beginning>(
+/// So many nodes over these stores, the last node's first. [`ServeFault::Members`] says that there are fewer stores, or that there can't
+/// be so many nodes.
+pub(crate) fn new_nodes<R: Wait, J: Beginning, const N: usize>(
     rt: &R,
     alloc: Global,
     hashing: RandomState,
     stores: Vec<FileStore>,
     log: Opened<OwnEntry>,
-) -> Result<Started<3, FileStore, J, Recent>, ServeFault>
+) -> Result<Started<N, FileStore, J, Recent>, ServeFault>
     requires named { log ≡ J.book }
     requires start { J.start ≡ [] }
 {
+    let Ok(count) = u8::try_from(N) else {
+        return Err(ServeFault::Members);
+    };
     let mut stores = stores;
-    let config = configured(3)?;
+    let config = configured(count)?;
     let journal = journal_of(alloc, &config, log)?;
-    let seats = [
-        seat(alloc, hashing, 0, config, &mut stores, &journal)?,
-        seat(alloc, hashing, 1, config, &mut stores, &journal)?,
-        seat(alloc, hashing, 2, config, &mut stores, &journal)?,
-    ];
-    started(start_nodes(rt, alloc, seats, journal))
-}
-
-/// Five nodes, as [`three_nodes`] makes three.
-pub(crate) fn five_nodes<R: Wait, J: Beginning>(
-    rt: &R,
-    alloc: Global,
-    hashing: RandomState,
-    stores: Vec<FileStore>,
-    log: Opened<OwnEntry>,
-) -> Result<Started<5, FileStore, J, Recent>, ServeFault>
-    requires named { log ≡ J.book }
-    requires start { J.start ≡ [] }
-{
-    let mut stores = stores;
-    let config = configured(5)?;
-    let journal = journal_of(alloc, &config, log)?;
-    let seats = [
-        seat(alloc, hashing, 0, config, &mut stores, &journal)?,
-        seat(alloc, hashing, 1, config, &mut stores, &journal)?,
-        seat(alloc, hashing, 2, config, &mut stores, &journal)?,
-        seat(alloc, hashing, 3, config, &mut stores, &journal)?,
-        seat(alloc, hashing, 4, config, &mut stores, &journal)?,
-    ];
+    let mut seats = Vec::new(alloc);
+    for number in 0..count {
+        let next = seat(alloc, hashing, number, config, &mut stores, &journal)?;
+        if seats.push(next).is_err() {
+            return Err(ServeFault::OutOfMemory);
+        }
+    }
     started(start_nodes(rt, alloc, seats, journal))
 }

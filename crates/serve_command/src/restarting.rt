@@ -210,38 +210,25 @@ fn begun<J: Beginning>(
     }
 }
 
-/// Three nodes that have started again, with a journal without an entry that begins where they stand.
-pub(crate) fn three_again<R: Wait, J: Beginning>(
+/// So many nodes that have started again, with a journal without an entry that begins where they stand. [`ServeFault::Members`] says that
+/// they are fewer, or none of a cluster.
+pub(crate) fn nodes_again<R: Wait, J: Beginning, const N: usize>(
     rt: &R,
     alloc: Global,
     config: &Config,
     nodes: FileNodes,
     journal: Journal<J, Recent>,
-) -> Result<Started<3, FileStore, J, Recent>, ServeFault>
+) -> Result<Started<N, FileStore, J, Recent>, ServeFault>
     requires { AreAtStart config.now J.start nodes.items }
 {
     let mut nodes = nodes;
-    let two = begun(alloc, config, &mut nodes, &journal)?;
-    let one = begun(alloc, config, &mut nodes, &journal)?;
-    let zero = begun(alloc, config, &mut nodes, &journal)?;
-    started(start_nodes(rt, alloc, [zero, one, two], journal))
-}
-
-/// Five nodes, as [`three_again`] makes three.
-pub(crate) fn five_again<R: Wait, J: Beginning>(
-    rt: &R,
-    alloc: Global,
-    config: &Config,
-    nodes: FileNodes,
-    journal: Journal<J, Recent>,
-) -> Result<Started<5, FileStore, J, Recent>, ServeFault>
-    requires { AreAtStart config.now J.start nodes.items }
-{
-    let mut nodes = nodes;
-    let four = begun(alloc, config, &mut nodes, &journal)?;
-    let three = begun(alloc, config, &mut nodes, &journal)?;
-    let two = begun(alloc, config, &mut nodes, &journal)?;
-    let one = begun(alloc, config, &mut nodes, &journal)?;
-    let zero = begun(alloc, config, &mut nodes, &journal)?;
-    started(start_nodes(rt, alloc, [zero, one, two, three, four], journal))
+    let mut seats = Vec::new(alloc);
+    for _ in 0..N {
+        let last = begun(alloc, config, &mut nodes, &journal)?;
+        if seats.push(last).is_err() {
+            return Err(ServeFault::OutOfMemory);
+        }
+    }
+    seats.reverse();
+    started(start_nodes(rt, alloc, seats, journal))
 }

@@ -11,8 +11,8 @@ ghost use Rattle.serve_command.specs.Addresses.{addresses_text};
 use crate::addresses::tell_addresses;
 use crate::advice::advise;
 use crate::fault::{ServeFault, fault_of, folder_fault};
-use crate::new_nodes::{configured, five_nodes, journal_of, three_nodes};
-use crate::restarting::{FileNodes, five_again, restart, three_again};
+use crate::new_nodes::{configured, journal_of, new_nodes};
+use crate::restarting::{FileNodes, nodes_again, restart};
 use crate::status::{FAILURE, SUCCESS};
 use crate::stores::{FileStore, stores_over};
 use crate::supervisor::{Restarts, Supervisor};
@@ -201,98 +201,64 @@ pub fn serve<
     ensures part { OnErr result ((written : List ℕ) × IsBeginning written (addresses_text first_port nodes)
         × Appends (W.contents w.old) (W.contents w.new) written) }
 {
-    match nodes {
-        3 => serve_three::<R, W, Brand>(
-            rt,
-            alloc,
-            hashing,
-            first_port,
-            stores,
-            options,
-            w,
-            Opened::new(),
-        ),
-        5 => serve_five::<R, W, Brand>(
-            rt,
-            alloc,
-            hashing,
-            first_port,
-            stores,
-            options,
-            w,
-            Opened::new(),
-        ),
+    serve_new::<R, W, Brand>(
+        rt,
+        alloc,
+        hashing,
+        nodes,
+        first_port,
+        stores,
+        options,
+        w,
+        Opened::new(),
+    )
+}
+
+// Serves so many nodes that start with nothing, whose journal has this log. Their number is written out where threads take them: what a
+// thread takes lives for `'static`, and there is no saying so of a type whose size is a parameter.
+fn serve_new<
+    R: Net<Listener = TcpListener, Stream = TcpStream>
+        + Threads
+        + Wait
+        + Clock
+        + Eprint
+        + Files<File = File>
+        + Copy
+        + Send
+        + 'static,
+    W: Write,
+    J: Beginning + Send + Sync + 'static,
+>(
+    rt: R,
+    alloc: Global,
+    hashing: RandomState,
+    count: u8,
+    first_port: u16,
+    stores: Vec<FileStore>,
+    options: &ServeOptions<'_>,
+    w: &mut W,
+    log: Opened<OwnEntry>,
+) -> Result<(), ServeFault>
+    requires named { log ≡ J.book }
+    requires start { J.start ≡ [] }
+    ensures all { OnOk result (Appends (W.contents w.old) (W.contents w.new) (addresses_text first_port count)) }
+    ensures part { OnErr result ((written : List ℕ) × IsBeginning written (addresses_text first_port count)
+        × Appends (W.contents w.old) (W.contents w.new) written) }
+{
+    match count {
+        3 => match new_nodes::<R, J, 3>(&rt, alloc, hashing, stores, log) {
+            Ok((nodes, notes)) => serve_nodes(
+                rt, alloc, nodes, notes, first_port, count, options, w,
+            ),
+            Err(fault) => Err(fault),
+        },
+        5 => match new_nodes::<R, J, 5>(&rt, alloc, hashing, stores, log) {
+            Ok((nodes, notes)) => serve_nodes(
+                rt, alloc, nodes, notes, first_port, count, options, w,
+            ),
+            Err(fault) => Err(fault),
+        },
         _ => Err(ServeFault::Members),
-    }
-}
-
-// Serves three nodes, whose journal has this log.
-fn serve_three<
-    R: Net<Listener = TcpListener, Stream = TcpStream>
-        + Threads
-        + Wait
-        + Clock
-        + Eprint
-        + Files<File = File>
-        + Copy
-        + Send
-        + 'static,
-    W: Write,
-    J: Beginning + Send + Sync + 'static,
->(
-    rt: R,
-    alloc: Global,
-    hashing: RandomState,
-    first_port: u16,
-    stores: Vec<FileStore>,
-    options: &ServeOptions<'_>,
-    w: &mut W,
-    log: Opened<OwnEntry>,
-) -> Result<(), ServeFault>
-    requires named { log ≡ J.book }
-    requires start { J.start ≡ [] }
-    ensures all { OnOk result (Appends (W.contents w.old) (W.contents w.new) (addresses_text first_port 3)) }
-    ensures part { OnErr result ((written : List ℕ) × IsBeginning written (addresses_text first_port 3)
-        × Appends (W.contents w.old) (W.contents w.new) written) }
-{
-    match three_nodes::<R, J>(&rt, alloc, hashing, stores, log) {
-        Ok((nodes, notes)) => serve_nodes(rt, alloc, nodes, notes, first_port, 3, options, w),
-        Err(fault) => Err(fault),
-    }
-}
-
-// Serves five nodes, whose journal has this log.
-fn serve_five<
-    R: Net<Listener = TcpListener, Stream = TcpStream>
-        + Threads
-        + Wait
-        + Clock
-        + Eprint
-        + Files<File = File>
-        + Copy
-        + Send
-        + 'static,
-    W: Write,
-    J: Beginning + Send + Sync + 'static,
->(
-    rt: R,
-    alloc: Global,
-    hashing: RandomState,
-    first_port: u16,
-    stores: Vec<FileStore>,
-    options: &ServeOptions<'_>,
-    w: &mut W,
-    log: Opened<OwnEntry>,
-) -> Result<(), ServeFault>
-    requires named { log ≡ J.book }
-    requires start { J.start ≡ [] }
-    ensures all { OnOk result (Appends (W.contents w.old) (W.contents w.new) (addresses_text first_port 5)) }
-    ensures part { OnErr result ((written : List ℕ) × IsBeginning written (addresses_text first_port 5)
-        × Appends (W.contents w.old) (W.contents w.new) written) }
-{
-    match five_nodes::<R, J>(&rt, alloc, hashing, stores, log) {
-        Ok((nodes, notes)) => serve_nodes(rt, alloc, nodes, notes, first_port, 5, options, w),
-        Err(fault) => Err(fault),
     }
 }
 
@@ -331,15 +297,25 @@ pub fn serve_again<
         }
     };
     match restart(&rt, alloc, hashing, &config, stores) {
-        Ok((old, told)) => {
-            serve_old(rt, alloc, nodes, first_port, config, old, told, options, w)
-        }
+        Ok((old, told)) => serve_restarted::<R, W, Brand>(
+            rt,
+            alloc,
+            nodes,
+            first_port,
+            config,
+            old,
+            told,
+            options,
+            w,
+            Opened::new(),
+        ),
         Err(fault) => Err(fault),
     }
 }
 
-// Serves so many nodes that have started again, and have heard these messages.
-fn serve_old<
+// Serves so many nodes that have started again, whose journal has this log, and begins where they stand. Their number is written out as in
+// `serve_new`.
+fn serve_restarted<
     R: Net<Listener = TcpListener, Stream = TcpStream>
         + Threads
         + Wait
@@ -350,139 +326,51 @@ fn serve_old<
         + Send
         + 'static,
     W: Write,
+    J: Beginning + Send + Sync + 'static,
 >(
     rt: R,
     alloc: Global,
-    nodes: u8,
+    count: u8,
     first_port: u16,
     config: Config,
     old: FileNodes,
     told: Vec<Message>,
     options: &ServeOptions<'_>,
     w: &mut W,
+    log: Opened<OwnEntry>,
 ) -> Result<(), ServeFault>
-    requires { AreStarted (config_of config) told.items old.items }
-    ensures all { OnOk result (Appends (W.contents w.old) (W.contents w.new) (addresses_text first_port nodes)) }
-    ensures part { OnErr result ((written : List ℕ) × IsBeginning written (addresses_text first_port nodes)
+    requires named { log ≡ J.book }
+    requires start { J.start ≡ starts_of (records_at_nodes old.items) told.items }
+    requires stand { AreStarted (config_of config) told.items old.items }
+    ensures all { OnOk result (Appends (W.contents w.old) (W.contents w.new) (addresses_text first_port count)) }
+    ensures part { OnErr result ((written : List ℕ) × IsBeginning written (addresses_text first_port count)
         × Appends (W.contents w.old) (W.contents w.new) written) }
 {
-    match nodes {
-        3 => serve_three_again::<R, W, Brand>(
-            rt,
-            alloc,
-            first_port,
-            config,
-            old,
-            told,
-            options,
-            w,
-            Opened::new(),
-        ),
-        5 => serve_five_again::<R, W, Brand>(
-            rt,
-            alloc,
-            first_port,
-            config,
-            old,
-            told,
-            options,
-            w,
-            Opened::new(),
-        ),
+    drop(told);
+    let journal = match journal_of::<J>(alloc, &config, log) {
+        Ok(journal) => journal,
+        Err(fault) => {
+            drop(old);
+            return Err(fault);
+        }
+    };
+    match count {
+        3 => match nodes_again::<R, J, 3>(&rt, alloc, &config, old, journal) {
+            Ok((nodes, notes)) => serve_nodes(
+                rt, alloc, nodes, notes, first_port, count, options, w,
+            ),
+            Err(fault) => Err(fault),
+        },
+        5 => match nodes_again::<R, J, 5>(&rt, alloc, &config, old, journal) {
+            Ok((nodes, notes)) => serve_nodes(
+                rt, alloc, nodes, notes, first_port, count, options, w,
+            ),
+            Err(fault) => Err(fault),
+        },
         _ => {
             drop(old);
             Err(ServeFault::Members)
         }
-    }
-}
-
-// Serves three nodes that have started again, whose journal has this log, and begins where they stand.
-fn serve_three_again<
-    R: Net<Listener = TcpListener, Stream = TcpStream>
-        + Threads
-        + Wait
-        + Clock
-        + Eprint
-        + Files<File = File>
-        + Copy
-        + Send
-        + 'static,
-    W: Write,
-    J: Beginning + Send + Sync + 'static,
->(
-    rt: R,
-    alloc: Global,
-    first_port: u16,
-    config: Config,
-    old: FileNodes,
-    told: Vec<Message>,
-    options: &ServeOptions<'_>,
-    w: &mut W,
-    log: Opened<OwnEntry>,
-) -> Result<(), ServeFault>
-    requires named { log ≡ J.book }
-    requires start { J.start ≡ starts_of (records_at_nodes old.items) told.items }
-    requires stand { AreStarted (config_of config) told.items old.items }
-    ensures all { OnOk result (Appends (W.contents w.old) (W.contents w.new) (addresses_text first_port 3)) }
-    ensures part { OnErr result ((written : List ℕ) × IsBeginning written (addresses_text first_port 3)
-        × Appends (W.contents w.old) (W.contents w.new) written) }
-{
-    drop(told);
-    let journal = match journal_of::<J>(alloc, &config, log) {
-        Ok(journal) => journal,
-        Err(fault) => {
-            drop(old);
-            return Err(fault);
-        }
-    };
-    match three_again::<R, J>(&rt, alloc, &config, old, journal) {
-        Ok((nodes, notes)) => serve_nodes(rt, alloc, nodes, notes, first_port, 3, options, w),
-        Err(fault) => Err(fault),
-    }
-}
-
-// Serves five nodes that have started again, whose journal has this log, and begins where they stand.
-fn serve_five_again<
-    R: Net<Listener = TcpListener, Stream = TcpStream>
-        + Threads
-        + Wait
-        + Clock
-        + Eprint
-        + Files<File = File>
-        + Copy
-        + Send
-        + 'static,
-    W: Write,
-    J: Beginning + Send + Sync + 'static,
->(
-    rt: R,
-    alloc: Global,
-    first_port: u16,
-    config: Config,
-    old: FileNodes,
-    told: Vec<Message>,
-    options: &ServeOptions<'_>,
-    w: &mut W,
-    log: Opened<OwnEntry>,
-) -> Result<(), ServeFault>
-    requires named { log ≡ J.book }
-    requires start { J.start ≡ starts_of (records_at_nodes old.items) told.items }
-    requires stand { AreStarted (config_of config) told.items old.items }
-    ensures all { OnOk result (Appends (W.contents w.old) (W.contents w.new) (addresses_text first_port 5)) }
-    ensures part { OnErr result ((written : List ℕ) × IsBeginning written (addresses_text first_port 5)
-        × Appends (W.contents w.old) (W.contents w.new) written) }
-{
-    drop(told);
-    let journal = match journal_of::<J>(alloc, &config, log) {
-        Ok(journal) => journal,
-        Err(fault) => {
-            drop(old);
-            return Err(fault);
-        }
-    };
-    match five_again::<R, J>(&rt, alloc, &config, old, journal) {
-        Ok((nodes, notes)) => serve_nodes(rt, alloc, nodes, notes, first_port, 5, options, w),
-        Err(fault) => Err(fault),
     }
 }
 
