@@ -61,7 +61,7 @@ abbrev pub HasTables : NodeState → List Upload → Type 0
 HasTables node uploads =
     (views : Views) × NodeHas node views × HasUploads node.agreement.config.members views.learner_calls uploads
 
--- there is a receipt of this question at this node, with this answer
+-- there is a receipt of this query at this node, with this answer
 abbrev pub IsEntered : ℕ → Query → EventResult → Type 0
 IsEntered node asked answer = (receipt : Receipt) × IsAskedAt node asked receipt × (receipt.answer ≡ answer)
 

@@ -3,7 +3,7 @@
 //! [`ClusterBackend`] hands an upload to its node and waits until the outcome is entered, asks it for a ticket, and tells of
 //! tables from what the node's tables hold. It knows nodes by the trait [`Nodes`] alone, so that its contract says what it
 //! may tell, whatever the nodes are: of a version and of an outcome just what the journal has as the answer of this node to
-//! this question, and of tables just what the node's tables hold. The running nodes of `node_threads` are such nodes, and what
+//! this query, and of tables just what the node's tables hold. The running nodes of `node_threads` are such nodes, and what
 //! they are made of can be named from here.
 //!
 //! [`Receipts`] has the receipts of all answers.

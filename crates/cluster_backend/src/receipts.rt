@@ -8,7 +8,7 @@ use std::alloc::Global;
 use std::marker::Model;
 use std::sync::{Mutex, Wait};
 
-/// Where the receipts of answers are kept: each says which entry of the journal has the question and the answer that was
+/// Where the receipts of answers are kept: each says which entry of the journal has the query and the answer that was
 /// given.
 pub trait Receipts {
     /// Keeps a receipt.

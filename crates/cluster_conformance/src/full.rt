@@ -55,7 +55,7 @@ fn fills<R: Wait, J: Beginning>(
     is_taken(nodes.cluster().deliver(rt, &OpenGate, 0, 0))
 }
 
-// Each further input, and each question, is refused.
+// Each further input, and each query, is refused.
 fn refuses<R: Wait, J: Beginning>(
     rt: &R,
     alloc: Global,

@@ -11,7 +11,7 @@ use crate::adding::add;
 use crate::download::Download;
 use crate::ids::ids_differ;
 use crate::laws::messages_are_one;
-use crate::{schema_in, upload_in};
+use crate::{schema_in, upload_message_in};
 use std::alloc::{AllocError, Global};
 
 /// What the messages are that came so far.
@@ -82,7 +82,7 @@ fn go_on(alloc: Global, download: Download, message: &[u8]) -> Result<Downloadin
         → IfOk result (λ next. HasTaken next (messages ++ message.now ∷ [])) }
 {
     messages_are_one();
-    let Some(said) = upload_in(alloc, &download.schema, message)? else {
+    let Some(said) = upload_message_in(alloc, &download.schema, message)? else {
         return Ok(Downloading::Spoiled);
     };
     let Download { schema, uploads } = download;

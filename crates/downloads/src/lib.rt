@@ -1,7 +1,7 @@
 //! What a client is served of a version of a table (Apache Arrow, "Arrow Flight RPC", "Downloading Data").
 //!
 //! An answer has the message of a schema, and then messages of uploads, each with an id and a batch or with an id alone.
-//! Which bytes are such a message is defined in `specs/Messages`: each has one encoding. [`schema_in`] and [`upload_in`] find
+//! Which bytes are such a message is defined in `specs/Messages`: each has one encoding. [`schema_in`] and [`upload_message_in`] find
 //! the fields of a message without memory, build it again, and take it only where that gives the same bytes.
 //!
 //! `specs/Downloads` defines which messages are those of an answer to a ticket, and `specs/Parts` what each of them says: the
@@ -32,4 +32,4 @@ mod upload_message;
 pub use download::{Download, ServedUpload};
 pub use downloading::Downloading;
 pub use schema_message::schema_in;
-pub use upload_message::{UploadMessage, upload_in};
+pub use upload_message::{UploadMessage, upload_message_in};

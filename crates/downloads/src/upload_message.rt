@@ -11,7 +11,7 @@ use crate::parts::{Parts, parts_of};
 use batch_columns::Batch;
 use header_types::Schema;
 use std::alloc::{AllocError, Global};
-use uploads::{DecodeFault, MAX_UPLOAD_BYTES, read_rows};
+use uploads::{DecodeFault, MAX_UPLOAD_BYTES, read_written_batch};
 
 /// What a message says of an upload: its id, and one of its batches; or the id alone, of an upload without batches.
 #[derive(Debug, Drop)]
@@ -44,7 +44,7 @@ fn batch_in(
     if body.len() > MAX_UPLOAD_BYTES {
         return Ok(None);
     }
-    match read_rows(alloc, schema, header, body) {
+    match read_written_batch(alloc, schema, header, body) {
         Ok(batch) => Ok(Some(batch)),
         Err(DecodeFault::NotAnUpload) => Ok(None),
         Err(DecodeFault::OutOfMemory) => Err(AllocError),
@@ -77,7 +77,7 @@ fn upload_of_parts(
 /// that has the upload's id, of 16 bytes, and the header and the body of a batch of the schema; or the id alone
 /// (Apache Arrow, "Flight.proto", `FlightData`). `None` says that they are that of none, and [`AllocError`] that memory was
 /// refused.
-pub fn upload_in(
+pub fn upload_message_in(
     alloc: Global,
     schema: &Schema,
     message: &[u8],

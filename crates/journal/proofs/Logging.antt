@@ -41,22 +41,22 @@ abbrev pub Grown : Journaled → Journaled → Step → Bool → Type 0
 Grown old new step was =
     (node : ℕ) → node < old.trace.config.members → own_in node new ≡ own_in node old ++ entries_of node new.trace.sent (step_of step) was
 
-no_concern : (here question : Bool) → question ≡ true → (here && not question) ≡ false
-no_concern true question is = ap (λ (b : Bool). not b) is
-no_concern false question is = refl
+no_concern : (here query : Bool) → query ≡ true → (here && not query) ≡ false
+no_concern true query is = ap (λ (b : Bool). not b) is
+no_concern false query is = refl
 
-just_here : (here question : Bool) → question ≡ false → (here && not question) ≡ here
-just_here true question is = ap (λ (b : Bool). not b) is
-just_here false question is = refl
+just_here : (here query : Bool) → query ≡ false → (here && not query) ≡ here
+just_here true query is = ap (λ (b : Bool). not b) is
+just_here false query is = refl
 
--- a question has none
+-- a query has none
 question_logged : (old new : Journaled) (step : Step) (was : Bool) (log : List OwnEntry) → new.trace.config ≡ old.trace.config → Grown old new step was → is_query (event_of step.event) ≡ true
     → HasLogged log old → HasLogged log new
-question_logged old new step was log config grown question has node member =
+question_logged old new step was log config grown query has node member =
     let here = subst (λ (c : Config). node < c.members) config member in
     grown node here
     ∙ (ap (λ (b : Bool). own_in node old ++ (if b then entry_of new.trace.sent (step_of step) was ∷ [] else []))
-    (no_concern (node_of (event_of step.event) == node) (is_query (event_of step.event)) question)
+    (no_concern (node_of (event_of step.event) == node) (is_query (event_of step.event)) query)
     ∙ (append-nil (own_in node old) ∙ has node here))
 
 -- the entries of one node, with one more
@@ -65,11 +65,11 @@ own_more node log entry = filter-append (λ (e : OwnEntry). node_of e.step.event
 
 entry_logged : (old new : Journaled) (step : Step) (was : Bool) (log : List OwnEntry) → new.trace.config ≡ old.trace.config → Grown old new step was → is_query (event_of step.event) ≡ false
     → HasLogged log old → HasLogged (log ++ entry_of new.trace.sent (step_of step) was ∷ []) new
-entry_logged old new step was log config grown question has node member =
+entry_logged old new step was log config grown query has node member =
     let here = subst (λ (c : Config). node < c.members) config member in
     let entry = entry_of new.trace.sent (step_of step) was in
     grown node here
-    ∙ (ap (λ (b : Bool). own_in node old ++ (if b then entry ∷ [] else [])) (just_here (node_of (event_of step.event) == node) (is_query (event_of step.event)) question)
+    ∙ (ap (λ (b : Bool). own_in node old ++ (if b then entry ∷ [] else [])) (just_here (node_of (event_of step.event) == node) (is_query (event_of step.event)) query)
     ∙ (ap (λ (es : List OwnEntry). es ++ (if node_of (event_of step.event) == node then entry ∷ [] else [])) (has node here)
     ∙ sym (own_more node log entry)))
 
@@ -83,20 +83,20 @@ some_none a is = cc
 pub logged_on : (old new : Journaled) (step : Step) (more : List Message) (was asked : Bool) (log : List OwnEntry) (mine : Option OwnEntry)
     → is_query (event_of step.event) ≡ asked → HasEntry old step more was new → Grown old new step was → HasLogged log old
     → mine ≡ own_entry old step more was → HasLogged (with_entry log mine) new
-logged_on old new step more was true log None question entered grown has is =
-    question_logged old new step was log entered.trace.config_is grown question has
-logged_on old new step more was true log (Some entry) question entered grown has is =
-    absurd (some_none entry (is ∙ ap (λ (b : Bool). if b then None else Some (entry_of (old.trace.sent ++ more) (step_of step) was)) question))
-logged_on old new step more was false log None question entered grown has is =
+logged_on old new step more was true log None query entered grown has is =
+    question_logged old new step was log entered.trace.config_is grown query has
+logged_on old new step more was true log (Some entry) query entered grown has is =
+    absurd (some_none entry (is ∙ ap (λ (b : Bool). if b then None else Some (entry_of (old.trace.sent ++ more) (step_of step) was)) query))
+logged_on old new step more was false log None query entered grown has is =
     absurd (some_none (entry_of (old.trace.sent ++ more) (step_of step) was)
-    (sym (is ∙ ap (λ (b : Bool). if b then None else Some (entry_of (old.trace.sent ++ more) (step_of step) was)) question)))
-logged_on old new step more was false log (Some entry) question entered grown has is =
+    (sym (is ∙ ap (λ (b : Bool). if b then None else Some (entry_of (old.trace.sent ++ more) (step_of step) was)) query)))
+logged_on old new step more was false log (Some entry) query entered grown has is =
     let one : entry ≡ entry_of new.trace.sent (step_of step) was =
     some_same entry (entry_of (old.trace.sent ++ more) (step_of step) was)
-    (is ∙ ap (λ (b : Bool). if b then None else Some (entry_of (old.trace.sent ++ more) (step_of step) was)) question)
+    (is ∙ ap (λ (b : Bool). if b then None else Some (entry_of (old.trace.sent ++ more) (step_of step) was)) query)
     ∙ ap (λ (ms : List Message). entry_of ms (step_of step) was) (sym entered.trace.sent_is) in
     subst (λ (es : List OwnEntry). HasLogged es new) (sym (ap (λ (e : OwnEntry). log ++ e ∷ []) one))
-    (entry_logged old new step was log entered.trace.config_is grown question has)
+    (entry_logged old new step was log entered.trace.config_is grown query has)
 
 pub logged_some : (old new : Journaled) (step : Step) (more : List Message) (was : Bool) (log outrun : Option (List OwnEntry)) (mine : Option OwnEntry) (log_now outrun_now : Option (List OwnEntry))
     → HasEntry old step more was new → Grown old new step was → IfSome log (λ l. HasLogged l old)

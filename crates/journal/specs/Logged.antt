@@ -22,7 +22,7 @@ AreCounted counts log = (node : ℕ) → node < max_members → slice_index_or c
 abbrev pub HasLogged : List OwnEntry → Journaled → Type 0
 HasLogged log journal = (node : ℕ) → node < journal.trace.config.members → own_in node journal ≡ own_of node log
 
--- what the node of the step has as its own entry of it; a question has none
+-- what the node of the step has as its own entry of it; a query has none
 abbrev pub own_entry : Journaled → Step → List Message → Bool → Option OwnEntry
 own_entry journal step more recovered =
     if is_query (event_of step.event) then None else Some (entry_of (journal.trace.sent ++ more) (step_of step) recovered)

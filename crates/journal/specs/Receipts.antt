@@ -22,13 +22,13 @@ step_told receipt = record { event = receipt.event; result = receipt.answer }
 abbrev pub IsReceiptOf : Traced → Receipt → Type 0
 IsReceiptOf trace receipt = slice_get trace.steps receipt.number ≡ Some (step_told receipt)
 
--- the receipt is of a question for a version of a table that was answered with these bytes
+-- the receipt is of a query for a version of a table that was answered with these bytes
 pub record Answers (receipt : Receipt) (ticket : TableVersion) (bytes : List ℕ) : Type 0 where
   pub node : ℕ
   pub event_is : receipt.event ≡ Get node ticket
   pub answer_is : receipt.answer ≡ Answer bytes
 
--- the receipt is of a question what has become of an upload, which was told to be applied as this version
+-- the receipt is of a query what has become of an upload, which was told to be applied as this version
 pub record TellsApplied (receipt : Receipt) (upload : Upload) (number : ℕ) : Type 0 where
   pub node : ℕ
   pub text : List ℕ

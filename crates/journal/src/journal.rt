@@ -325,7 +325,7 @@ impl<J: Beginning, M: Retention> Journal<J, M> {
     /// it gave, and the messages that it sent, which are numbered on from those that were sent before. By what its own
     /// entries leave it, the node of the event gives that by its rules; with this entry they leave it as it is then. Of a
     /// restart `recovered` says whether the node had back the record that was due where it went down. `own` is what the
-    /// node has as its own entry of it; a question has none. It takes no memory.
+    /// node has as its own entry of it; a query has none. It takes no memory.
     ///
     /// The log, where the journal knows it, has the node's own entry more. Only where it was seen to go on without the journal,
     /// or has 2^62 entries, does the journal know it no longer.

@@ -44,7 +44,7 @@ fn decide<J: Beginning>(
     Ok(())
 }
 
-// Two seats of one node at one journal: the second agrees until the first has an entry, and a question is none.
+// Two seats of one node at one journal: the second agrees until the first has an entry, and a query is none.
 fn two_of_one_node<J: Beginning>(
     alloc: Global,
     hashing: RandomState,
@@ -59,7 +59,7 @@ fn two_of_one_node<J: Beginning>(
     let mut twin = seat::<MemoryStable, J>(alloc, hashing, 0, config, MemoryStable::new(alloc))?;
     let mut other = seat::<MemoryStable, J>(alloc, hashing, 1, config, MemoryStable::new(alloc))?;
     let asked = serve(&mut twin, &mut journal, Query::Get(ticket(alloc, 1)?));
-    check(asked == Gave::Entered(0), "a question is not entered")?;
+    check(asked == Gave::Entered(0), "a query is not entered")?;
     let put = take(&mut one, &mut journal, SeatInput::Put(upload(alloc, 1)?));
     check(put == Gave::Entered(1), "a put is not taken")?;
     check(

@@ -75,7 +75,7 @@ fn meets(alloc: Global, journal: &Journal, other: &Receipt) -> Result<bool, Fail
     Ok(journal.meet(&late, other) || journal.meet(other, &late))
 }
 
-// The receipts of a put, of a question for its outcome, and of a version that there is not.
+// The receipts of a put, of a query for its outcome, and of a version that there is not.
 fn three_receipts(
     alloc: Global,
     seat: &mut Seat<MemoryStable>,

@@ -20,7 +20,7 @@ pub record IsTold (node : ℕ) (input : SeatInput) (taken : Taken) : Type 0 wher
   pub forth : taken.sent.start ≤ taken.sent.end
   pub answer_is : taken.receipt.answer ≡ given_for input taken.sent.start (taken.sent.end - taken.sent.start)
 
--- The receipt is of this question at this node, with the answer of some tables.
+-- The receipt is of this query at this node, with the answer of some tables.
 pub record IsAskedAt (node : ℕ) (asked : Query) (receipt : Receipt) : Type 0 where
   pub event_is : receipt.event ≡ asked_at node asked
   pub uploads : List Upload

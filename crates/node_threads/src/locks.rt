@@ -68,7 +68,7 @@ impl<'a, S: Stable + Drop, J: Beginning, M: Retention> Locks<'a, S, J, M> {
         message_in(rt, self.journal, number)
     }
 
-    /// Asks the node, and enters the question with its answer, which is in the receipt and is that of some tables.
+    /// Asks the node, and enters the query with its answer, which is in the receipt and is that of some tables.
     ///
     /// The faults are those of `Seat::read` and `Seat::serve`.
     pub(crate) fn ask<R: Wait, G: Gate>(
@@ -167,7 +167,7 @@ fn is_at<S: Stable + Drop, J: Beginning, M: Retention>(
     }
 }
 
-// What has become of this upload by the receipt of the question at this node.
+// What has become of this upload by the receipt of the query at this node.
 fn settled_by(node: usize, upload: &Upload, receipt: Receipt) -> Option<Settled>
     requires { IsAskedAt node (Asked upload.now) receipt }
     ensures { IfSome result (λ settled.

@@ -10,7 +10,7 @@ use std::marker::Model;
 use table_versions::Outcome;
 use uploads::Upload;
 
-/// What has become of an upload, as an entry of the journal says, whose question the node of this number answered from its
+/// What has become of an upload, as an entry of the journal says, whose query the node of this number answered from its
 /// tables.
 #[derive(Debug, Drop)]
 pub struct Settled {

@@ -74,7 +74,7 @@ impl<const N: usize, S: Stable + Drop, J: Beginning, M: Retention> Cluster<N, S,
         message_in(rt, self.journal(), number)
     }
 
-    /// Asks the node, and enters the question with its answer, which is in the receipt and is that of some tables.
+    /// Asks the node, and enters the query with its answer, which is in the receipt and is that of some tables.
     ///
     /// The faults are those of `Seat::read` and `Seat::serve`; [`SeatFault::Down`] also where there is no such node.
     pub fn ask<R: Wait, G: Gate>(
@@ -97,7 +97,7 @@ impl<const N: usize, S: Stable + Drop, J: Beginning, M: Retention> Cluster<N, S,
 
     /// What the node answers to a ticket, entered: the frames of the ticket's version, or `None` where the node has none.
     ///
-    /// The faults are those of [`Cluster::ask`]; and want of memory for a copy of the answer, where the question stands entered.
+    /// The faults are those of [`Cluster::ask`]; and want of memory for a copy of the answer, where the query stands entered.
     pub fn get<R: Wait, G: Gate>(
         &self,
         rt: &R,

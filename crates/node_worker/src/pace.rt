@@ -106,7 +106,7 @@ impl Pace {
             .min(LONGEST_WAIT_MILLISECONDS);
     }
 
-    /// A tick was given that sent this message, if it sent one. A question to the others and an attempt double the wait for the next,
+    /// A tick was given that sent this message, if it sent one. An Ask and an attempt double the wait for the next,
     /// up to [`LONGEST_WAIT_MILLISECONDS`].
     pub fn tick(&mut self, sent: Option<&Message>)
         ensures { (me members : ℕ) (happened : List Happening) → IsPaceOf me members happened self.old

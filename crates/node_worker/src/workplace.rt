@@ -121,7 +121,7 @@ pub trait Workplace {
     fn find(&mut self, place: usize) -> Option<PutId>
         ensures { does self.old (Found place result) self.new };
 
-    /// Asks the node what has become of a put, and enters the question with its outcome where that is known; `None`, and
+    /// Asks the node what has become of a put, and enters the query with its outcome where that is known; `None`, and
     /// nothing is entered, where it is not.
     fn enter(&mut self, put: PutId) -> Result<Option<Self::Settled>, WorkplaceFault>
         ensures { does self.old (Entered put result) self.new };

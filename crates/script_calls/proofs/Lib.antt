@@ -1,3 +1,3 @@
-pub mod Questions
+pub mod Requested
 pub mod Endpoints
 pub mod Heard

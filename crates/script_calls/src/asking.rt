@@ -106,10 +106,10 @@ fn answer<R: Read, W: Write>(
     w: &mut W,
     asked: &CallRequest,
 ) -> Result<Told, ClientFault>
-    ensures sent { (question : RequestMeaning) → IsAsked asked.now question
-        → WhereKnown (W.contents w.old) (W.contents w.new) (Requests result (request_of question)) }
-    ensures told { (question : RequestMeaning) → IsAsked asked.now question
-        → WhereKnown (R.remaining r.old) (R.remaining r.new) (Receives (Tells question) (CanTell question) result) }
+    ensures sent { (meaning : RequestMeaning) → IsAsked asked.now meaning
+        → WhereKnown (W.contents w.old) (W.contents w.new) (Requests result (request_of meaning)) }
+    ensures told { (meaning : RequestMeaning) → IsAsked asked.now meaning
+        → WhereKnown (R.remaining r.old) (R.remaining r.new) (Receives (Tells meaning) (CanTell meaning) result) }
 {
     match asked {
         CallRequest::Put(upload) => ask_put(alloc, r, w, upload),
@@ -135,12 +135,12 @@ pub fn ask<R: Read, W: Write>(
     asked: &CallRequest,
 ) -> Result<Told, Unanswered>
     // What has gone out is the request, or a beginning of it where it could not be written.
-    ensures sent { (question : RequestMeaning) → IsAsked asked.now question
-        → WhereKnown (W.contents w.old) (W.contents w.new) (Requests (as_received result) (request_of question)) }
+    ensures sent { (meaning : RequestMeaning) → IsAsked asked.now meaning
+        → WhereKnown (W.contents w.old) (W.contents w.new) (Requests (as_received result) (request_of meaning)) }
     // What was told, and what is left of the input behind it.
-    ensures told { (question : RequestMeaning) → IsAsked asked.now question
+    ensures told { (meaning : RequestMeaning) → IsAsked asked.now meaning
         → WhereKnown (R.remaining r.old) (R.remaining r.new)
-        (Receives (Tells question) (CanTell question) (as_received result)) }
+        (Receives (Tells meaning) (CanTell meaning) (as_received result)) }
 {
     match answer(alloc, r, w, asked) {
         Ok(told) => Ok(told),

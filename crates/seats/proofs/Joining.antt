@@ -43,8 +43,8 @@ next_at journal me step more was old new is member led gives asked counted = rec
 -- ---- its own entries
 
 -- the event is one of the node that may change it
-pub concerning : (me : ℕ) (here question : Bool) → here ≡ true → question ≡ false → (here && not question) ≡ true
-concerning me here question is none = ap (λ (b : Bool). b && not question) is ∙ ap (λ (b : Bool). not b) none
+pub concerning : (me : ℕ) (here query : Bool) → here ≡ true → query ≡ false → (here && not query) ≡ true
+concerning me here query is none = ap (λ (b : Bool). b && not query) is ∙ ap (λ (b : Bool). not b) none
 
 pub mine_grow : (before after : Journaled) (me : ℕ) (step : Step) (more : List Message) (was : Bool) (own : List OwnEntry) (entry : OwnEntry) → EntersOwn before step more was after
     → me < before.trace.config.members → own_in me before ≡ own → concerns me (event_of step.event) ≡ true → entry_of after.trace.sent (step_of step) was ≡ entry

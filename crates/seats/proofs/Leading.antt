@@ -88,7 +88,7 @@ pub record Leaves {S : Type 0} (new : RunningSeat S) (after : Journaled) (left :
   pub led : IsLedTo new left
   pub agrees : Agrees new after
 
--- the seat behind a step of its node that is no question
+-- the seat behind a step of its node that is no query
 pub leaves : {S : Type 0} (old new : RunningSeat S) (node : StoredNodeState S) (before after : Journaled) (step : Step) (more : List Message) (was : Bool) (entry : OwnEntry) (stood left : UpOrDown)
     → HasMore old new node entry → Agrees old before → IsLedTo old stood → node_of (event_of step.event) ≡ old.node.me → concerns old.node.me (event_of step.event) ≡ true
     → entry_of after.trace.sent (step_of step) was ≡ entry → IsNext before step more was stood left → EntersOwn before step more was after → HasEntry before step more was after

@@ -56,7 +56,7 @@ pub own_cut : (before : Journaled) (me : ℕ) (input : SeatInput) → IsSentIn b
 own_cut before me input sent cut is =
     own_where before (cut_step cut) [] false (cut_entry cut input) (asks_none_cut me input cut is) (cut_is_own before.trace.sent me input cut is sent)
 
--- a question has none
+-- a query has none
 pub own_served : (before : Journaled) (me : ℕ) (asked : Query) (answer : EventResult) → None ≡ own_entry before (record { event = asked_at me asked; result = answer }) [] false
 own_served before me (query.Get ticket) answer = refl
 own_served before me (query.Outcome upload) answer = refl

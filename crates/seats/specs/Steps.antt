@@ -236,7 +236,7 @@ TakeGives old new before after prepared (Err fault.Lost) = ⊥
 
 -- ---- an answer that is served
 
--- One entry: the question at this node, with what was read; and the seat agrees still.
+-- One entry: the query at this node, with what was read; and the seat agrees still.
 pub record IsServed {S : Type 0} (seat : RunningSeat S) (before after : Journaled) (found : Found) (receipt : Receipt) : Type 0 where
   pub entry : HasEntry before (record { event = asked_at seat.node.me found.query; result = found.answer }) [] false after
   pub told : TellsEntry before (asked_at seat.node.me found.query) found.answer receipt

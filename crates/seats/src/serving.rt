@@ -28,7 +28,7 @@ fn event_for(me: NodeId, query: Query) -> Event
 }
 
 impl<S: Stable + Drop, J: Beginning, M: Retention> Seat<S, J, M> {
-    /// Enters what was read: the question at this node, with the answer, which is that of some tables. The seat is as
+    /// Enters what was read: the query at this node, with the answer, which is that of some tables. The seat is as
     /// [`Seat::read`] found it.
     ///
     /// The first of these faults is told that stands, memory apart: [`SeatFault::Strange`] exactly where the seat is not

@@ -1,4 +1,4 @@
--- What a node answers, as what a question gives.
+-- What a node answers, as what a query gives.
 use Rattle.std.proofs.Common.{◌≡◌, ◌≢◌, ◌⊎◌, refl, sym, ap, subst, ◌∙◌, inl, inr, ℕ, ◌<◌, arith, true, false, [], ◌∷◌, length, Option, None, Some, IsSome, List}
 use Rattle.std.specs.Option.{option_map}
 use Rattle.table_types.specs.Uploads.{Upload}

@@ -320,7 +320,7 @@ module _ {S : Type 0} (some : TakenKeepSome) (old new : StoredNodeState S) (befo
   not_handed_cut reason.Down sent not = absurd not
   not_handed_cut reason.NotSent sent not = absurd (sent refl)
 
--- ---- a question
+-- ---- a query
 
 -- what a node's prefix makes
 pub uploads_of : (members : ℕ) (node : NodeState) (views : Views) → node.agreement.config.members ≡ members → NodeHas node views

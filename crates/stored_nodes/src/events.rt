@@ -17,7 +17,7 @@ ghost use Rattle.stored_nodes.specs.Kept.{CountsNodeFault};
 use crate::due::{records_are_due, what_is_taken_is_allowed};
 use crate::fault::StoredNodeFault;
 use crate::handing::{message_for, upload_for};
-use crate::questions::{latest_asked, version_asked};
+use crate::queries::{latest_asked, version_asked};
 use crate::reasons::reason_for;
 use crate::steps::{keep_alone, take};
 use crate::stored_node::StoredNode;

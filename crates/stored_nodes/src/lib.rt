@@ -27,7 +27,7 @@ mod handing;
 mod kept;
 pub mod laws;
 mod opening;
-mod questions;
+mod queries;
 mod reasons;
 mod steps;
 mod stored_node;

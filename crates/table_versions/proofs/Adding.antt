@@ -12,7 +12,7 @@ use Rattle.table_types.specs.Uploads.{Upload}
 use Rattle.table_types.specs.Served.{in_frame, upload_messages, schema_message}
 use Rattle.table_types.specs.Answers.{answer_of}
 use Rattle.table_types.specs.Tables.{is_to, effective, rows_of_upload}
-use Rattle.table_versions.specs.declared.place.Place.{Place}
+use Rattle.table_versions.specs.declared.frame_key.FrameKey.{FrameKey}
 use Rattle.table_versions.specs.declared.table.Table.{Table}
 use Rattle.table_versions.specs.declared.prepared.Part.{Part}
 use Rattle.table_versions.specs.Ledger.{frames_of, frames_text, TableEntries, FrameEntries, table_in, is_place, frames_in, names_in}
@@ -131,7 +131,7 @@ numbers_put old new named put puts number stay are name table is =
 
 -- ---- frames
 
-pub frames_stay : (old new : FrameEntries) (place : Place) (served : List (List ℕ)) → PutsFrames old new place served → (number version : ℕ) (xs : List Upload)
+pub frames_stay : (old new : FrameEntries) (place : FrameKey) (served : List (List ℕ)) → PutsFrames old new place served → (number version : ℕ) (xs : List Upload)
     → ((k : ℕ) → k < version + length xs → is_place place (record { table = number; version = k }) ≡ false) → HasFrames old number version xs → HasFrames new number version xs
 frames_stay old new place served puts number version [] apart has = tt
 frames_stay old new place served puts number version (x ∷ xs) apart has = (
@@ -148,10 +148,10 @@ frames_push frames number version (x ∷ xs) u has is =
     let here : version + suc (length xs) ≡ suc version + length xs = omega arith in
     (has.0, frames_push frames number (suc version) xs u has.1 (subst (λ v. frames_in frames number v ≡ Some (frames_of u)) here is))
 
-pub other_number : (place : Place) (number version : ℕ) → place.table ≢ number → is_place place (record { table = number; version = version }) ≡ false
+pub other_number : (place : FrameKey) (number version : ℕ) → place.table ≢ number → is_place place (record { table = number; version = version }) ≡ false
 other_number place number version differ = grind (arith, nat_tests)
 
-pub other_version : (place : Place) (number version : ℕ) → version < place.version → is_place place (record { table = number; version = version }) ≡ false
+pub other_version : (place : FrameKey) (number version : ℕ) → version < place.version → is_place place (record { table = number; version = version }) ≡ false
 other_version place number version below = grind (arith, nat_tests)
 
 -- ---- a new table stands behind the others

@@ -9,7 +9,7 @@ use Rattle.table_types.specs.Valid.{IsUpload}
 use Rattle.table_types.specs.Tables.{has_id, is_to, shape_text, has_shape, effective}
 use Rattle.table_types.specs.Tables.{Outcome, applied, mismatched, first_with_id, place_from, outcome_of}
 use Rattle.table_versions.specs.declared.first.First.{First}
-use Rattle.table_versions.specs.declared.place.Place.{Place}
+use Rattle.table_versions.specs.declared.frame_key.FrameKey.{FrameKey}
 use Rattle.table_versions.specs.declared.table.Table.{Table}
 use Rattle.table_versions.specs.declared.prepared.Part.{Part}
 use Rattle.table_versions.specs.Ledger.{frames_of, FirstEntries, TableEntries, FrameEntries, first_in, told_of_first, table_in, frames_in, names_in}
@@ -92,7 +92,7 @@ module _ (stay : OutcomesStay) (first_uploads : FirstEntries) (tables : TableEnt
       }
 
     -- a new one that is the first to its table
-    module _ (new : FirstEntries) (more : TableEntries) (served : FrameEntries) (entry : First) (table : Table) (part : Part) (place : Place)
+    module _ (new : FirstEntries) (more : TableEntries) (served : FrameEntries) (entry : First) (table : Table) (part : Part) (place : FrameKey)
         (puts : PutsFirst first_uploads new u.id entry) (opens : PutsTable tables more u.table table) (serves : PutsFrames frames served place part.frames)
         (counted : effective u.table uploads ≡ []) (names : names_in more ≡ names_in tables ++ u.table ∷ []) (opened : IsOpened table (length (names_in tables)) part)
         (is_part : IsPartOf part u) (place_table : place.table ≡ length (names_in tables)) (place_version : place.version ≡ 1)
@@ -135,7 +135,7 @@ module _ (stay : OutcomesStay) (first_uploads : FirstEntries) (tables : TableEnt
       }
 
     -- a new one of the shape of its table
-    module _ (new : FirstEntries) (more : TableEntries) (served : FrameEntries) (entry : First) (old grown : Table) (part : Part) (place : Place) (head : Upload) (rest : List Upload)
+    module _ (new : FirstEntries) (more : TableEntries) (served : FrameEntries) (entry : First) (old grown : Table) (part : Part) (place : FrameKey) (head : Upload) (rest : List Upload)
         (puts : PutsFirst first_uploads new u.id entry) (grows : PutsTable tables more u.table grown) (serves : PutsFrames frames served place part.frames)
         (counted : effective u.table uploads ≡ head ∷ rest) (like : has_shape (shape_text head) u ≡ true) (names : names_in more ≡ names_in tables)
         (there : table_in tables u.table ≡ Some old) (is_grown : IsGrown old grown part.records part.bytes) (is_part : IsPartOf part u)

@@ -15,7 +15,7 @@ use Rattle.table_types.specs.Answers.{answer_of}
 use Rattle.table_types.specs.Tables.{Outcome, shape_text, effective, first_with_id, outcome_of}
 use Rattle.table_types.specs.Tables.{table_names, rows_of_upload, rows_of_uploads}
 use Rattle.table_versions.specs.declared.first.First.{First}
-use Rattle.table_versions.specs.declared.place.Place.{Place}
+use Rattle.table_versions.specs.declared.frame_key.FrameKey.{FrameKey}
 use Rattle.table_versions.specs.declared.table.Table.{Table}
 use Rattle.table_versions.specs.declared.prepared.Part.{Part}
 use Rattle.table_versions.specs.declared.prepared.Prepared.{Prepared}
@@ -44,7 +44,7 @@ abbrev pub TableEntries : Type 0
 TableEntries = List (String Global × Table)
 
 abbrev pub FrameEntries : Type 0
-FrameEntries = List (Place × List (List ℕ))
+FrameEntries = List (FrameKey × List (List ℕ))
 
 abbrev pub first_in : FirstEntries → List ℕ → Option First
 first_in entries id = lookup (bytes_eq id) entries
@@ -52,7 +52,7 @@ first_in entries id = lookup (bytes_eq id) entries
 abbrev pub table_in : TableEntries → List ℕ → Option Table
 table_in entries name = lookup (λ key. bytes_eq name (string_bytes key)) entries
 
-abbrev pub is_place : Place → Place → Bool
+abbrev pub is_place : FrameKey → FrameKey → Bool
 is_place a b = a.table == b.table && a.version == b.version
 
 abbrev pub frames_in : FrameEntries → ℕ → ℕ → Option (List (List ℕ))

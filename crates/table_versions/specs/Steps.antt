@@ -4,7 +4,7 @@ use Rattle.std.specs.Prelude.{◌++◌, length}
 use Rattle.std.specs.Str.{bytes_eq}
 use Rattle.table_types.specs.Tables.{Outcome, applied, mismatched}
 use Rattle.table_versions.specs.declared.first.First.{First}
-use Rattle.table_versions.specs.declared.place.Place.{Place}
+use Rattle.table_versions.specs.declared.frame_key.FrameKey.{FrameKey}
 use Rattle.table_versions.specs.declared.table.Table.{Table}
 use Rattle.table_versions.specs.declared.prepared.Part.{Part}
 use Rattle.table_versions.specs.Ledger.{FirstEntries, TableEntries, FrameEntries, first_in, table_in, is_place}
@@ -21,7 +21,7 @@ pub record PutsTable (old new : TableEntries) (name : List ℕ) (table : Table) 
   pub others : (other : List ℕ) → bytes_eq name other ≡ false → table_in new other ≡ table_in old other
 
 -- the frames of a version are put, and the others are as before
-pub record PutsFrames (old new : FrameEntries) (place : Place) (frames : List (List ℕ)) : Type 0 where
+pub record PutsFrames (old new : FrameEntries) (place : FrameKey) (frames : List (List ℕ)) : Type 0 where
   pub here : frames_in new place.table place.version ≡ Some frames
   pub others : (number version : ℕ) → is_place place (record { table = number; version = version }) ≡ false
       → frames_in new number version ≡ frames_in old number version
@@ -60,7 +60,7 @@ TellsShape (Some table) shape None = ⊥
 TellsShape (Some table) shape (Some like) = IsTrue like ↔ (table.shape ≡ shape)
 
 -- a table grew by one upload, and the version that this makes stands at the place
-pub record Grows (tables more : TableEntries) (name : List ℕ) (old : Table) (records bytes : ℕ) (place : Place)
+pub record Grows (tables more : TableEntries) (name : List ℕ) (old : Table) (records bytes : ℕ) (place : FrameKey)
     : Type 0 where
   pub grown : Table
   pub grows : PutsTable tables more name grown
@@ -72,7 +72,7 @@ pub record Grows (tables more : TableEntries) (name : List ℕ) (old : Table) (r
 pub record OpensTable (tables more : TableEntries) (frames served : FrameEntries) (name : List ℕ) (part : Part)
     : Type 0 where
   pub table : Table
-  pub place : Place
+  pub place : FrameKey
   pub opens : PutsTable tables more name table
   pub serves : PutsFrames frames served place part.frames
   pub names : names_in more ≡ names_in tables ++ name ∷ []
@@ -83,7 +83,7 @@ pub record OpensTable (tables more : TableEntries) (frames served : FrameEntries
 -- a further upload to a table made the next version of it
 pub record AddsVersion (tables more : TableEntries) (frames served : FrameEntries) (name : List ℕ) (part : Part)
     (old : Table) (version : ℕ) : Type 0 where
-  pub place : Place
+  pub place : FrameKey
   pub grows : Grows tables more name old part.records part.bytes place
   pub serves : PutsFrames frames served place part.frames
   pub names : names_in more ≡ names_in tables

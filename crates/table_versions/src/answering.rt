@@ -13,8 +13,8 @@ ghost use Rattle.table_versions.specs.Ledger.{frames_in};
 ghost use Rattle.table_versions.specs.State.{agreed_values_limit};
 
 use crate::answer::Answer;
+use crate::frame_key::FrameKey;
 use crate::outcome::Outcome;
-use crate::place::Place;
 use crate::steps::{Firsts, Frames, NamedTables};
 use crate::upload_frames::UploadFrames;
 use ballots::OutOfMemory;
@@ -46,7 +46,7 @@ fn frames_at(frames: &Frames, table: usize, version: u64) -> &UploadFrames
     requires { (served : List (List ℕ)) × (frames_in frames.now.entries table version ≡ Some served) }
     ensures { frames_in frames.now.entries table version ≡ Some result.now }
 {
-    match frames.get(&Place { table, version }) {
+    match frames.get(&FrameKey { table, version }) {
         Some(served) => served,
         None => unreachable!(),
     }

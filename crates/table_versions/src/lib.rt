@@ -25,13 +25,13 @@
 mod answer;
 mod answering;
 mod first;
+mod frame_key;
 mod framing;
 mod info;
 pub mod laws;
 mod ledger;
 mod listing;
 mod outcome;
-mod place;
 mod placing;
 mod prepared;
 mod preparing;

@@ -8,8 +8,8 @@ ghost use Rattle.table_versions.specs.Ledger.{table_in, names_in};
 ghost use Rattle.table_versions.specs.Steps.{TellsShape, HasRoomToGrow};
 ghost use Rattle.table_versions.specs.Steps.{Grows, OpensTable, AddsVersion, Places};
 
+use crate::frame_key::FrameKey;
 use crate::outcome::Outcome;
-use crate::place::Place;
 use crate::prepared::Part;
 use crate::steps::{Frames, NamedTables, grow, opened, put_frames, put_table};
 
@@ -21,7 +21,7 @@ fn is_of_shape(tables: &NamedTables, name: &str, shape: &[u8]) -> Option<bool>
 }
 
 /// Lets a table grow by one upload with so many rows and bytes.
-fn grow_table(tables: &mut NamedTables, name: &str, records: u64, bytes: u64) -> Place
+fn grow_table(tables: &mut NamedTables, name: &str, records: u64, bytes: u64) -> FrameKey
     requires { (old : Held) × (table_in tables.old.entries name.now ≡ Some old)
         × ((old.version + 1 < 2 ^ 64) × (old.records + records < 2 ^ 64) × (old.total_bytes + bytes < 2 ^ 64)) }
     ensures grows { (old : Held) → table_in tables.old.entries name.now ≡ Some old
@@ -49,7 +49,7 @@ fn open_table(tables: &mut NamedTables, frames: &mut Frames, name: String, part:
     let number = tables.len();
     let (table, served) = opened(number, part);
     put_table(tables, name, table);
-    let place = Place {
+    let place = FrameKey {
         table: number,
         version: 1,
     };

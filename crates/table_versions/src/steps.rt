@@ -7,7 +7,7 @@ ghost use Rattle.table_versions.specs.Ledger.{first_in, table_in, names_in};
 ghost use Rattle.table_versions.specs.Steps.{PutsFirst, PutsTable, PutsFrames, IsOpened, IsGrown};
 
 use crate::first::First;
-use crate::place::Place;
+use crate::frame_key::FrameKey;
 use crate::prepared::Part;
 use crate::table::Table;
 use crate::upload_frames::UploadFrames;
@@ -21,7 +21,7 @@ pub(crate) type Firsts = IndexMap<[u8; 16], First, RandomState>;
 pub(crate) type NamedTables = IndexMap<String, Table, RandomState>;
 
 /// The frames of each effective upload, at the version that it made.
-pub(crate) type Frames = IndexMap<Place, UploadFrames, RandomState>;
+pub(crate) type Frames = IndexMap<FrameKey, UploadFrames, RandomState>;
 
 /// Whether an upload of the id has come.
 pub(crate) fn has_come(firsts: &Firsts, id: [u8; 16]) -> bool
@@ -42,7 +42,7 @@ pub(crate) fn put_first(firsts: &mut Firsts, id: [u8; 16], first: First)
 }
 
 /// Puts the frames of a version.
-pub(crate) fn put_frames(frames: &mut Frames, place: Place, served: UploadFrames)
+pub(crate) fn put_frames(frames: &mut Frames, place: FrameKey, served: UploadFrames)
     requires { 0 < spare frames.old }
     ensures puts { PutsFrames frames.old.entries frames.new.entries place served }
     ensures room { spare frames.old ≤ spare frames.new + 1 }
@@ -85,7 +85,7 @@ pub(crate) fn opened(number: usize, part: Part) -> (Table, UploadFrames)
 }
 
 /// One upload more, with so many rows and bytes.
-pub(crate) fn grow(table: &mut Table, records: u64, bytes: u64) -> Place
+pub(crate) fn grow(table: &mut Table, records: u64, bytes: u64) -> FrameKey
     requires version { table.old.version + 1 < 2 ^ 64 }
     requires records { table.old.records + records < 2 ^ 64 }
     requires bytes { table.old.total_bytes + bytes < 2 ^ 64 }
@@ -96,7 +96,7 @@ pub(crate) fn grow(table: &mut Table, records: u64, bytes: u64) -> Place
     table.version += 1;
     table.records += records;
     table.total_bytes += bytes;
-    Place {
+    FrameKey {
         table: table.number,
         version: table.version,
     }

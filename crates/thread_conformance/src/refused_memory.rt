@@ -1,5 +1,5 @@
 //! Calls of a cluster and of its running nodes that are refused memory, and then are made again: after a refusal the
-//! journal and all nodes are as before, or there is the one entry of a node that went down, or that of a question.
+//! journal and all nodes are as before, or there is the one entry of a node that went down, or that of a query.
 //! Run with every allocation refused in turn, the test ends as before or for want of memory.
 
 use crate::calls::{Call, Gave};
@@ -55,7 +55,7 @@ fn has_one_more(before: &ClusterState, after: &ClusterState) -> bool {
         && after.third == before.third
 }
 
-// Whether all is as where memory was refused: a question is entered before its answer is copied.
+// Whether all is as where memory was refused: a query is entered before its answer is copied.
 fn stands(before: &ClusterState, after: &ClusterState, call: Call) -> bool {
     match call {
         Call::Get | Call::RunningGet => *before == *after || has_one_more(before, after),

@@ -14,7 +14,7 @@
 //! - **Reading.** [`check_upload`] says whether bytes that nobody has checked are the encoding of an upload that is taken.
 //!   Fields, names and limits are looked at first, without memory (`finding`, `Found` in `specs/`); then the schema and each
 //!   batch are read, and taken only where writing them again gives the same bytes (`reading`, `Read` in `specs/`).
-//!   [`read_schema`] and [`read_rows`] read one of them by itself, as it is served to clients too; [`written_schema`] and
+//!   [`read_schema`] and [`read_written_batch`] read one of them by itself, as it is served to clients too; [`written_schema`] and
 //!   [`written_batches`] read again what is known to be written so.
 //! - **Writing.** `Making` in `specs/` has which upload a table's name, an id, a schema and batches make, and why they make
 //!   none, in the order in which it is reported. [`encode_upload`] looks at them first: at names and at the schema (`making`),
@@ -52,7 +52,7 @@ pub use lengths::{field_length, fits_frame, message_length, part_length};
 pub use limits::{MAX_UPLOAD_BATCHES, UPLOAD_ID_BYTES, limits_are_those_of_uploads};
 pub use making::encode_upload;
 pub use parts::{Parts, parts_of};
-pub use reading::{read_rows, read_schema};
+pub use reading::{read_schema, read_written_batch};
 pub use sizes::batch_size;
 pub use table_types::{MAX_TABLE_NAME_BYTES, is_table_name};
 pub use upload::Upload;

@@ -177,7 +177,7 @@ fn is_written_so(
 /// encoding (Apache Arrow, "Arrow Columnar Format", "Encapsulated message format").
 ///
 /// [`DecodeFault::NotAnUpload`] says that they are that of none, and [`DecodeFault::OutOfMemory`] that memory was refused.
-pub fn read_rows(
+pub fn read_written_batch(
     alloc: Global,
     schema: &Schema,
     header: &[u8],
@@ -223,7 +223,7 @@ pub(crate) fn check_batches(
 {
     let mut left = EncodedBatches::new(batches);
     while let Some((header, body)) = left.next() {
-        read_rows(alloc, schema, header, body)?;
+        read_written_batch(alloc, schema, header, body)?;
     }
     Ok(())
 }

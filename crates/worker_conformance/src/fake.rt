@@ -100,7 +100,7 @@ impl Workplace for Fake {
         Some(PutId { place, number })
     }
 
-    // Of the put 1 nothing is known; a question of the put 2 meets that the journal is full, one of the put 3 that there is no
+    // Of the put 1 nothing is known; a query of the put 2 meets that the journal is full, one of the put 3 that there is no
     // memory.
     fn enter(&mut self, put: PutId) -> Result<Option<u64>, WorkplaceFault> {
         self.see(Seen::Entered(put.number));

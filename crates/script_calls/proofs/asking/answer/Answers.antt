@@ -3,7 +3,7 @@ use Rattle.grpc_frames.specs.FrameFaults.{WhereKnown}
 use Rattle.run_files.specs.declared.script.CallRequest.TheVariants as asked
 use Rattle.client_calls.specs.Answers.{Receives, Requests}
 use Rattle.script_calls.specs.Asking.{RequestMeaning, request_of, Tells, CanTell}
-use Rattle.script_calls.proofs.Questions.{put_asked, get_asked, info_asked}
+use Rattle.script_calls.proofs.Requested.{put_asked, get_asked, info_asked}
 use Rattle.script_calls.proofs.asking.answer.Goals as goal
 
 pub returns-in-Put-clause-sent : goal.returns-in-Put-clause-sent

@@ -4,7 +4,7 @@ use Rattle.table_versions.specs.declared.info.TableInfo.{TableInfo}
 use Rattle.table_versions.specs.Info.{IsLatest}
 use Rattle.histories.specs.EventResult as results
 use Rattle.stored_nodes.proofs.Answering.{the_latest, no_latest, no_memory_for_latest}
-use Rattle.stored_nodes.proofs.questions.latest_asked.Goals as goal
+use Rattle.stored_nodes.proofs.queries.latest_asked.Goals as goal
 
 pub returns-in-Ok-Some : goal.returns-in-Ok-Some
 returns-in-Ok-Some c = λ views uploads has of.

@@ -6,7 +6,7 @@ use Rattle.header_types.specs.Views.{schema_of}
 use Rattle.batch_types.specs.Canonical.{canonical_head}
 use Rattle.batch_columns.specs.Batches.{rows_of}
 use Rattle.uploads.proofs.Shown.{head_shows, rows_laid, rows_moved}
-use Rattle.uploads.proofs.reading.read_rows.Goals as goal
+use Rattle.uploads.proofs.reading.read_written_batch.Goals as goal
 
 pub returns-in_err-head-clause-fault : goal.returns-in_err-head-clause-fault
 returns-in_err-head-clause-fault c =

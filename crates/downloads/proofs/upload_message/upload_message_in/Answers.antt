@@ -1,6 +1,6 @@
 use Rattle.header_types.specs.Views.{schema_of}
 use Rattle.downloads.proofs.Said.{no_upload, unnamed, upload_said}
-use Rattle.downloads.proofs.upload_message.upload_in.Goals as goal
+use Rattle.downloads.proofs.upload_message.upload_message_in.Goals as goal
 
 pub returns-in_default : goal.returns-in_default
 returns-in_default c =

@@ -1,7 +1,7 @@
 use Rattle.std.proofs.Common.{sym, refl, ◌∙◌, inl}
 use Rattle.histories.specs.EventResult as results
 use Rattle.stored_nodes.proofs.Answering.{an_answer, no_answer, no_memory}
-use Rattle.stored_nodes.proofs.questions.version_asked.Goals as goal
+use Rattle.stored_nodes.proofs.queries.version_asked.Goals as goal
 
 pub returns-in-Ok-Some : goal.returns-in-Ok-Some
 returns-in-Ok-Some c = λ views uploads has of.
