@@ -10,8 +10,8 @@ import re
 
 from calls_model import Service, Unjudged, call_text, descriptor, put_messages
 from conditional_model import MOST_EXPECTED
-from paxos_model import HEAD, IN_MESSAGE, IN_RECORD, MESSAGE, RECORD, is_majority, is_safe, parts_of, promisers, was_proposed
-from ranged_model import Acceptor, first_breach, message_parts, parts_in, record_parts, said_of, says, shown_message, shown_record, text_of
+from paxos_model import HEAD, IN_MESSAGE, MESSAGE, is_majority, is_safe, kept_line_of, parts_of, promisers, record_parts, was_proposed
+from ranged_model import Acceptor, first_breach, message_parts, parts_in, said_of, says, shown_message, text_of
 from runs_model import Run, Upload
 from tables_model import MOST_BATCHES, is_table_name, ticket_of, ticket_text, upload_of
 from wire_model import INFO, MAX_FRAME_PAYLOAD, BadFrame, Faults, bytes_field, frame, frame_at, meant_inside, values_by_number
@@ -212,7 +212,7 @@ def audit(file, is_explained=False, is_ranged=False):
 
 
 def record_line(place, parts):
-    kind, *words = shown_record(parts).split(" ")
+    kind, *words = kept_line_of(parts).split(" ")
     words = [kind.replace("-", " "), *(["slot"] if kind != "began" else []), *words]
     value = parts["value"]
     if kind == "accepted" and value:
@@ -220,7 +220,7 @@ def record_line(place, parts):
     return f"{place} {' '.join(words)}"
 
 
-def records(file, is_ranged=False):
+def records(file):
     lines, at = [], 0
     # a file of at most one byte is a new one
     while len(file) > 1 and file[at] == 1:
@@ -229,7 +229,7 @@ def records(file, is_ranged=False):
             if end >= len(file):
                 raise Faults("CutShort")
             text = file[at + 5 : end]
-            lines.append(record_line(len(lines), record_parts(text) if is_ranged else parts_of(text, RECORD, [], IN_RECORD)))
+            lines.append(record_line(len(lines), record_parts(text)))
         except Faults:
             return 1, "", [f"flightd: Damaged\nbyte {at}: this gate is open, but the record after it is incomplete\n"]
         at = end

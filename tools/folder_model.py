@@ -9,7 +9,7 @@ from servers import records_in
 from wire_model import values_by_number
 
 ENTRY_BYTES = 24
-BEGAN, PROMISED, ACCEPTED = 1, 2, 3
+BEGAN, PROMISED, ACCEPTED, PROMISED_FROM = 1, 2, 3, 4
 
 
 def entry_of(number, record):

@@ -67,7 +67,7 @@ class Values:
 
     @staticmethod
     def in_record(text, most):
-        parts = ranged_model.record_parts(text, most)
+        parts = paxos_model.record_parts(text, most)
         return parts["value"] if "value" in paxos_model.IN_RECORD[parts["kind"]] else None
 
     @staticmethod

@@ -21,6 +21,7 @@ MAX_NODE, MAX_SLOT, MAX_ROUND = 6, 999_999, 4_000_000_000
 # The most bytes of a value, today and where the types of columns whose names begin with Large are carried.
 MAX_VALUE, MAX_VALUE_WITH_LARGE = 16 * 1024 * 1024, 64 * 1024 * 1024
 KINDS = ["", "Prepare", "Promise", "Nack", "Accept", "Accepted", "Ask", "Decided"]
+KEPT = ["", "began", "promised", "accepted", "promised-from"]
 
 
 def shown_ballot(ballot):
@@ -39,7 +40,7 @@ LIMITS = {"sender": (0, MAX_NODE), "slot": (0, MAX_SLOT), "round": (1, MAX_ROUND
 LIMITS |= {"second round": (1, MAX_ROUND), "second node": (0, MAX_NODE)}
 HEAD, FIRST, SECOND = ["sender", "slot"], ["round", "node"], ["second round", "second node"]
 IN_MESSAGE = {1: FIRST, 2: FIRST, 3: FIRST + SECOND, 4: FIRST + ["value"], 5: FIRST + ["value"], 6: [], 7: ["value"]}
-IN_RECORD = {1: FIRST, 2: ["slot", *FIRST], 3: ["slot", *FIRST, "value"]}
+IN_RECORD = {1: FIRST, 2: ["slot", *FIRST], 3: ["slot", *FIRST, "value"], 4: ["slot", *FIRST]}
 
 
 def encoding(numbers, parts):
@@ -111,12 +112,17 @@ def line_of(parts):
 
 def kept_line_of(parts):
     """A record as its line."""
-    ballot = shown_ballot((parts["round"], parts["node"]))
-    if parts["kind"] == 1:
-        return f"began {ballot}"
-    if parts["kind"] == 2:
-        return f"promised {parts['slot']} {ballot}"
-    return f"accepted {parts['slot']} {ballot} {shown_value(parts['value'])}"
+    name, ballot = KEPT[parts["kind"]], shown_ballot((parts["round"], parts["node"]))
+    if name == "began":
+        return f"{name} {ballot}"
+    if name == "accepted":
+        return f"{name} {parts['slot']} {ballot} {shown_value(parts['value'])}"
+    return f"{name} {parts['slot']} {ballot}"
+
+
+def record_parts(text, max_value=MAX_VALUE):
+    """The parts of the record that a text encodes."""
+    return parts_of(text, RECORD, [], IN_RECORD, max_value)
 
 
 def told_message(text):
@@ -124,7 +130,7 @@ def told_message(text):
 
 
 def told_record(text):
-    return [kept_line_of(parts_of(text, RECORD, [], IN_RECORD))]
+    return [kept_line_of(record_parts(text))]
 
 
 # Fields at the limits of their values, also of other wire types, and two with unknown numbers.
@@ -147,7 +153,7 @@ def beginnings(kinds, rounds):
 
 MESSAGE_ROUNDS = [[(1, 2), (5, 1)], [(1, 3), (5, 1)]]
 MESSAGE_ROUNDS += [[(1, 1), (5, 1)], [(1, 2), (5, 1), (7, 1)], [(1, 3), (5, 1), (7, 1)], [(1, 4), (5, 1)], [(1, 5), (5, 1)]]
-RECORD_ROUNDS = [[(1, kind), (3, 1)] for kind in range(1, 4)]
+RECORD_ROUNDS = [[(1, kind), (3, 1)] for kind in IN_RECORD]
 
 
 def decoded(command, call, begun, fields, whole):
@@ -182,6 +188,7 @@ def records():
         yield {"kind": 2, "slot": slot, "round": round_, "node": node, "value": b""}
         yield {"kind": 3, "slot": slot, "round": round_, "node": node, "value": b""}
         yield {"kind": 3, "slot": slot, "round": round_, "node": node, "value": b"abc"}
+        yield {"kind": 4, "slot": slot, "round": round_, "node": node, "value": b""}
 
 
 def encoded():
@@ -264,6 +271,35 @@ def restored():
         lines += [f"acceptor promised {number}", f"  {shown_ballot(slot.promised)}"]
         lines += [f"acceptor accepted {number}", f"  {slot.shown() if slot.accepted else 'nothing'}"]
     return [f"new acceptor {' '.join(texts)}", *lines]
+
+
+def record_text(kind, slot, ballot, value):
+    return encoding(RECORD, {"kind": KEPT.index(kind), "slot": slot, "round": ballot[0], "node": ballot[1], "value": value})
+
+
+def left_of(records, slot):
+    """What records leave of a slot: the highest ballot that it promised or accepted at, where a promise of all slots from a first one on is
+    one of each of them, and the last acceptance at the highest ballot."""
+    ballots = [ballot for kind, of, ballot, _ in records if of == slot or (kind == "promised-from" and of < slot)]
+    accepted = [(ballot, place, value) for place, (kind, of, ballot, value) in enumerate(records) if kind == "accepted" and of == slot]
+    ballot, _, value = max(accepted, default=(None, 0, b""))
+    return shown_ballot(max(ballots)) if ballots else "nothing", f"{shown_value(value)} at {shown_ballot(ballot)}" if accepted else "nothing"
+
+
+def restored_from():
+    """All pairs of records of two slots at two ballots, of which one or both are promises of all slots from theirs on, each pair for a new
+    acceptor."""
+    lines = []
+    for pair in itertools.product(itertools.product(KEPT[2:], (0, 1), ((1, 0), (2, 0))), repeat=2):
+        if all(kind != "promised-from" for kind, _, _ in pair):
+            continue
+        records = [(*it, bytes([place]) if it[0] == "accepted" else b"") for place, it in enumerate(pair, 1)]
+        lines.append(f"new acceptor {' '.join(record_text(*it).hex() for it in records)}")
+        for slot in (0, 1, MAX_SLOT):
+            promised, accepted = left_of(records, slot)
+            lines += [f"acceptor promised {slot}", f"  {promised}"]
+            lines += [f"acceptor accepted {slot}", f"  {accepted}"] if slot < 2 else []
+    return lines
 
 
 def attempts():
@@ -470,13 +506,14 @@ def stories():
         ("Fields behind beginnings of a message.", decoded("decode", told_message, beginnings(range(1, 8), MESSAGE_ROUNDS), IN_MESSAGES, 5)),
         ("Each beginning of a Promise with a report.", cuts("decode", told_message, bytes.fromhex("08021003180528033002380240014a03616263"))),
         ("Records of each kind, likewise.", kept()),
-        ("Fields behind beginnings of a record.", decoded("decode-record", told_record, beginnings(range(1, 4), RECORD_ROUNDS), IN_RECORDS, 3)),
+        ("Fields behind beginnings of a record.", decoded("decode-record", told_record, beginnings(IN_RECORD, RECORD_ROUNDS), IN_RECORDS, len(RECORD_ROUNDS))),
         ("Each beginning of an Accepted.", cuts("decode-record", told_record, bytes.fromhex("08031005180320022a03616263"))),
     )
     calls = file_of(
         made,
         ("Three requests to an acceptor.", answers()),
         ("Three records that an acceptor has back.", restored()),
+        ("Two records, of which one or both promise all slots from a first one on.", restored_from()),
         ("Three promises to a proposer.", attempts()),
         ("Three calls of a learner of three members, of whom node 3 is none.", votes(3)),
         ("The same of a single member.", votes(1)),

@@ -33,10 +33,11 @@ DECIDED = """["put",0,0],["tick",0,0],["deliver",0,0],["deliver",1,0],["deliver"
 DECIDED_LINES = ["done", *(f"sent {it}" for it in "012-345--"), "applied 1", "unavailable"]
 # a file that is an unlawful run, and a schedule of one event
 BOTH = b'{"members":3,"sent":["08042801"],"slot_limit":2,"uploads":[],"events":[["tick",0,0]]}'
-# the records of a begun ballot, a promise and an acceptance of forty bytes, and their lines
+# the records of a begun ballot, a promise, an acceptance of forty bytes and a promise of all slots from slot 5 on, and their lines
 FORTY = bytes(range(40)).hex()
-RECORDS = ("08011801", "08021801", f"080318012a28{FORTY}")
-RECORD_LINES = ("0 began 1.0", "1 promised slot 0 1.0", f"2 accepted slot 0 1.0 upload of 40 bytes {FORTY[:64]}")
+RECORDS = ("08011801", "08021801", f"080318012a28{FORTY}", "080410051802")
+RECORD_LINES = ("0 began 1.0", "1 promised slot 0 1.0", f"2 accepted slot 0 1.0 upload of 40 bytes {FORTY[:64]}",
+                "3 promised from slot 5 2.0")
 PREPARE, PROMISE = bytes.fromhex("000000000408012801"), bytes.fromhex("000000000408022801")
 
 

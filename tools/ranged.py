@@ -120,7 +120,7 @@ def limits():
     skipped = parts_of(text_of(parts_in(message(1, 5, "PromiseFrom", (2, 0), reports=[(5, (1, 0), b"a")]))), MESSAGE, HEAD, IN_MESSAGE)
     if text_of(skipped) != text_of(parts_in(message(1, 5, "Promise", (2, 0)))):
         yield "a PromiseFrom to a reader of the first form"
-    if records(bytes.fromhex("01 06000000 080410051802 00".replace(" ", "")), True)[1] != "0 promised from slot 5 2.0\n":
+    if records(bytes.fromhex("01 06000000 080410051802 00".replace(" ", "")))[1] != "0 promised from slot 5 2.0\n":
         yield "a record of a promise of all slots from one on"
 
 

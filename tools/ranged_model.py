@@ -1,5 +1,5 @@
-"""A model of promises that bind all slots from a first one on: what they add to paxos_model.py. Of the crates `acceptor` alone has a
-call for them.
+"""A model of promises that bind all slots from a first one on: what they add to paxos_model.py, which has their record. Of the crates
+`acceptor` and `proposer` have calls for them, and `ballots` their record, but not their messages.
 
 A leader needs one promise of a majority for all slots to come: it sends one Prepare for infinitely many instances, and an acceptor
 answers for all of them at once (Lamport, "Paxos Made Simple", section 3). So Prepare and Promise have a second form, PrepareFrom and
@@ -8,18 +8,17 @@ the crates do.
 
 A ballot is a pair of its round and its node, and a value is its bytes, none for a no-op. A message is a dictionary, as `message` makes
 it; the `reports` of a PromiseFrom are triples of a slot, a ballot and a value."""
-from paxos_model import FIRST, HEAD, IN_MESSAGE, IN_RECORD, KINDS, MAX_SLOT, MAX_VALUE, MESSAGE, RECORD, SECOND, encoding, faults_in
-from paxos_model import is_majority, kept_line_of, line_of, may_follow, meant, parts_of, shown_ballot, shown_value
+from paxos_model import FIRST, HEAD, IN_MESSAGE, KINDS, MAX_SLOT, MAX_VALUE, MESSAGE, SECOND, encoding, faults_in
+from paxos_model import is_majority, line_of, may_follow, meant, parts_of, shown_ballot, shown_value
 from wire_model import Faults, bytes_field, fields_of, split
 
-PREPARE, PROMISE, PROMISED_FROM = KINDS.index("Prepare"), KINDS.index("Promise"), 4
+PREPARE, PROMISE = KINDS.index("Prepare"), KINDS.index("Promise")
 # What field 4 of a Prepare or a Promise says: that it is about one slot, or about all slots from this one on.
 ONE_SLOT, ALL_FROM = 0, 1
 FROM = {"PrepareFrom": "Prepare", "PromiseFrom": "Promise"}
 # The fields of the second form, those of a report, and the number of the field that has a report.
 RANGED_MESSAGE = {1: "kind", 2: "sender", 3: "slot", 4: "form", 5: "round", 6: "node"}
 REPORT, REPORTS = {1: "slot", 2: "round", 3: "node", 4: "value"}, 10
-IN_RANGED_RECORD = IN_RECORD | {PROMISED_FROM: ["slot", *FIRST]}
 # Below every ballot.
 NO_BALLOT = (0, 0)
 
@@ -29,7 +28,7 @@ def message(sender, slot, what, ballot=None, value=b"", report=None, promised=No
             "reports": list(reports)}
 
 
-# ---- messages and records as bytes and as lines
+# ---- messages as bytes and as lines
 
 
 def reports_in(fields, first, faults, max_value):
@@ -63,11 +62,6 @@ def message_parts(text, max_value=MAX_VALUE):
     if faults:
         raise Faults(*faults)
     return {name: parts[name] for name in RANGED_MESSAGE.values()} | {"reports": reports}
-
-
-def record_parts(text, max_value=MAX_VALUE):
-    """The parts of the record that a text encodes, also of a promise of all slots from one on."""
-    return parts_of(text, RECORD, [], IN_RANGED_RECORD, max_value)
 
 
 def text_of(parts):
@@ -115,13 +109,6 @@ def shown_message(parts):
         return line_of(parts)
     words = [f"node {parts['sender']} slot {parts['slot']} {KINDS[parts['kind']]}From {shown_ballot(ballot_in(parts))}"]
     return " ".join(words + [f"accepted {it['slot']} {shown_ballot(ballot_in(it))} {shown_value(it['value'])}" for it in parts["reports"]])
-
-
-def shown_record(parts):
-    """A record of any kind as its line."""
-    if parts["kind"] != PROMISED_FROM:
-        return kept_line_of(parts)
-    return f"promised-from {parts['slot']} {shown_ballot(ballot_in(parts))}"
 
 
 # ---- lawful histories: what a message says of each slot, by the six clauses of paxos_model.py

@@ -7,13 +7,11 @@ import itertools
 import random
 
 from files_model import explained
-from paxos_model import BALLOTS, MAX_ROUND, MAX_SLOT, RECORD, cuts, decoded, encoding, shown_ballot, shown_value
-from ranged_model import ALL_FROM, FROM, PREPARE, PROMISE, PROMISED_FROM, Acceptor, Attempt, ballot_in, first_breach, may_come
-from ranged_model import message, message_parts, parts_in, record_parts, said_of, shown_message, shown_record, text_of
+from paxos_model import BALLOTS, KEPT, MAX_ROUND, MAX_SLOT, cuts, decoded, record_parts, record_text, shown_ballot, shown_value, told_record
+from ranged_model import ALL_FROM, FROM, PREPARE, PROMISE, Acceptor, Attempt, ballot_in, first_breach, may_come
+from ranged_model import message, message_parts, parts_in, said_of, shown_message, text_of
 from tellers.paxos import ballot_of, message_of, value_of
 from wire_model import bytes_field, file_of, number_field, rows, varint
-
-KEPT = ["", "began", "promised", "accepted", "promised-from"]
 
 
 # ---- messages and records in lines
@@ -40,10 +38,6 @@ def record_in(text):
     """The record that a text encodes, as acceptors keep it."""
     parts = record_parts(text)
     return {"what": KEPT[parts["kind"]], "slot": parts["slot"], "ballot": ballot_in(parts), "value": parts["value"]}
-
-
-def record_text(what, slot, ballot, value=b""):
-    return encoding(RECORD, {"kind": KEPT.index(what), "slot": slot, "round": ballot[0], "node": ballot[1], "value": value})
 
 
 # ---- what each command gives
@@ -245,7 +239,7 @@ def encoded():
 def kept():
     lines = []
     for slot, ballot, _ in EDGES[::2]:
-        text, line = record_text("promised-from", slot, ballot), f"promised-from {slot} {shown_ballot(ballot)}"
+        text, line = record_text("promised-from", slot, ballot, b""), f"promised-from {slot} {shown_ballot(ballot)}"
         lines += [f"encode-record {line}", f"  {text.hex()}", f"decode-record {text.hex()}", f"  {line}"]
     return lines
 
@@ -254,14 +248,10 @@ def told_message(text):
     return [shown_message(message_parts(text))]
 
 
-def told_record(text):
-    return [shown_record(record_parts(text))]
-
-
 def meanings():
     begun = [b"".join(number_field(*it) for it in fields) for fields in BEGUN]
     cut = text_of(parts_in(message(2, 1, "PromiseFrom", (3, 2), reports=[(1, (1, 0), b""), (3, (2, 1), b"abc")])))
-    begun_record = b"".join(number_field(*it) for it in ((1, PROMISED_FROM), (3, 1)))
+    begun_record = b"".join(number_field(*it) for it in ((1, KEPT.index("promised-from")), (3, 1)))
     return file_of(
         "What bytes mean where promises of all slots from a first one on are known, as tools/ranged.py says. Where several faults stand, a\n"
         "# reader may tell any of them: `one-of` names them, before the command.",

@@ -565,6 +565,8 @@ def read_record(record):
         return None, None, f"began {ballot}"
     if kind == 2:
         return None, None, f"promised slot {slot} {ballot}"
+    if kind == 4:
+        return None, None, f"promised from slot {slot} {ballot}"
     if not value:
         return (slot, ballot), None, f"accepted slot {slot} {ballot} noop"
     return (slot, ballot), digest(value), f"accepted slot {slot} {ballot} upload of {len(value)} bytes {value[:32].hex()}"

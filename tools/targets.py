@@ -308,7 +308,7 @@ def run_changed(draw, text, other):
 
 class PaxosTarget(Target):
     crate = "paxos"
-    seeds = [["decode 08012801"], ["decode-record 08011801"], [line_of("audited", run_file(3, SENT[:2]))]]
+    seeds = [["decode 08012801"], ["decode-record 08011801"], ["decode-record 080410051802"], [line_of("audited", run_file(3, SENT[:2]))]]
 
     def other(self, draw, lines, others):
         name, text = lines[0].split(" ")[0], bytes_at_end(lines[0])

@@ -1,11 +1,10 @@
 """The teller of the stories of the parts of a Paxos node, of its messages and records, and of lawful histories."""
 import json
 
-from paxos_model import KINDS, MESSAGE, RECORD, encoding, shown_value
+from paxos_model import KEPT, KINDS, MESSAGE, RECORD, encoding, shown_value
 from repeated import tell_each
 
 KIND_OF = {name: kind for kind, name in enumerate(KINDS)}
-KEPT_KINDS = ["", "began", "promised", "accepted"]
 REFUSED = "ForetoldOtherwise"
 
 
@@ -30,9 +29,9 @@ def message(kind, sender=0, slot=0, ballot=None, second=None, value="noop"):
 
 def record(kind, *words):
     """A record from its words, as in `accepted 5 2.1 616263`, as a word of a request: its encoding."""
-    slot, ballot, value = {"began": ["0", *words, "noop"], "promised": [*words, "noop"], "accepted": words}[kind]
+    slot, ballot, value = {"began": ["0", *words, "noop"], "accepted": words}.get(kind, [*words, "noop"])
     round_, node = ballot_of(ballot)
-    parts = {"kind": KEPT_KINDS.index(kind), "slot": int(slot), "round": round_, "node": node, "value": value_of(value)}
+    parts = {"kind": KEPT.index(kind), "slot": int(slot), "round": round_, "node": node, "value": value_of(value)}
     return encoding(RECORD, parts).hex()
 
 
@@ -381,7 +380,7 @@ class Teller:
         """The encoding of a record, requested with a message that has its slot, its ballot and its value."""
         if kind == "began":
             handed = message("Prepare", ballot=words[0])
-        elif kind == "promised":
+        elif kind in ("promised", "promised-from"):
             handed = message("Prepare", 0, *words)
         else:
             slot, ballot, value = words

@@ -1,30 +1,34 @@
 -- What is granted is at least all that its slot has accepted.
-use Rattle.std.proofs.Common.{ℕ, nat_eq, true, false, Bool, if◌then◌else◌, inl, inr, List, [], ◌∷◌, Option, Some, None, sym, subst}
+use Rattle.std.proofs.Common.{ℕ, nat_eq, nat_le, ◌&&◌, true, false, Bool, if◌then◌else◌, inl, inr, List, [], ◌∷◌, Option, Some, None, sym, subst}
 use Rattle.std.specs.Option.{option_map}
 use Rattle.std.specs.List.{Contains, filter_map, cons_option}
 use Rattle.std.proofs.lemmas.List.Elements.{Contains-append_left, Contains-append_right, Contains-append_cases}
 use Rattle.ballots.specs.Ballot.{Ballot, IsAbove, IsAtLeast}
+use Rattle.ballots.specs.Limits.{max_slot}
 use Rattle.ballots.specs.Slots.{SetsSlot}
 use Rattle.ballots.specs.declared.acceptance.Acceptance.{Acceptance}
 use Rattle.ballots.specs.declared.record.Record.{Record}
-use Rattle.ballots.specs.declared.record.Record.TheVariants.{Began, Promised, Accepted}
+use Rattle.ballots.specs.declared.record.Record.TheVariants.{Began, Promised, Accepted, PromisedFrom}
 use Rattle.ballots.proofs.CallerLemmas.{at_least_where_not_below, not_below_more}
 use Rattle.acceptor.specs.Raising.{Raises}
 use Rattle.acceptor.specs.Restored.{promise_in, acceptance_in, IsHighest, IsLastHighest}
 use Rattle.acceptor.proofs.Lists.{nothing_in, one_in, only_one}
 use Rattle.acceptor.proofs.Highest.{in_middle}
 
+-- one ballot more, where there is one
+one_behind : (ballots : List Ballot) (a b : Ballot) → Contains ballots a → (here : Bool)
+    → Contains (cons_option (let o : Option Ballot = if here then Some b else None in o) ballots) a
+one_behind ballots a b there true = Contains-append_right (b ∷ []) ballots a there
+one_behind ballots a b there false = there
+
 -- the ballot of an acceptance is among those that are promised
 pub promised_with : (slot : ℕ) (records : List Record) (a : Acceptance) → Contains (filter_map (acceptance_in slot) records) a
     → Contains (filter_map (promise_in slot) records) a.ballot
 promised_with slot [] a has = absurd (nothing_in a has)
 promised_with slot (Began ballot ∷ records) a has = promised_with slot records a has
-promised_with slot (Promised of ballot ∷ records) a has = behind (promised_with slot records a has) (nat_eq slot of)
-  where
-    behind : Contains (filter_map (promise_in slot) records) a.ballot → (here : Bool)
-        → Contains (cons_option (let o : Option Ballot = if here then Some ballot else None in o) (filter_map (promise_in slot) records)) a.ballot
-    behind there true = Contains-append_right (ballot ∷ []) (filter_map (promise_in slot) records) a.ballot there
-    behind there false = there
+promised_with slot (Promised of ballot ∷ records) a has = one_behind (filter_map (promise_in slot) records) a.ballot ballot (promised_with slot records a has) (nat_eq slot of)
+promised_with slot (PromisedFrom first ballot ∷ records) a has =
+    one_behind (filter_map (promise_in slot) records) a.ballot ballot (promised_with slot records a has) (nat_le first slot && nat_le slot max_slot)
 promised_with slot (Accepted of b ∷ records) a has = either (λ behind. promised_with slot records a behind) (nat_eq slot of) has
   where
     either : (Contains (filter_map (acceptance_in slot) records) a → Contains (filter_map (promise_in slot) records) a.ballot) → (here : Bool)

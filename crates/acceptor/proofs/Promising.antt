@@ -1,5 +1,5 @@
 -- What a slot has promised: the higher of its own promise and of that which it made with others.
-use Rattle.std.proofs.Common.{◌≡◌, ℕ, Bool, true, false, leb, if◌then◌else◌, [], get_or, Option, Some, None, Result, Ok, Err, IfOk, inl, inr, refl, sym, ap, subst, ◌∙◌}
+use Rattle.std.proofs.Common.{◌≡◌, ℕ, Bool, true, false, leb, if◌then◌else◌, [], get_or, Option, Some, None, Result, Ok, Err, IfOk, ◌⊎◌, inl, inr, refl, sym, ap, subst, ◌∙◌}
 use Rattle.std.specs.Option.{option_map}
 use Rattle.ballots.specs.Ballot.{Ballot, IsBelow, IsAbove, IsAtLeast}
 use Rattle.ballots.specs.Limits.{max_slot}
@@ -7,8 +7,8 @@ use Rattle.ballots.specs.Slots.{SetsSlot}
 use Rattle.ballots.specs.declared.acceptance.Acceptance.{Acceptance}
 use Rattle.ballots.proofs.CallerLemmas.{below_carried, below_or_at_least, at_least_where_not_below}
 use Rattle.acceptor.specs.Ranges.{higher, ranged_at}
-use Rattle.acceptor.specs.Ranged.{AreBelow, BindsFrom, IsGreatestFrom, IsHighestFrom, AreAcceptances, Reports}
-use Rattle.acceptor.specs.Raising.{Raises}
+use Rattle.acceptor.specs.Ranged.{IsFrom, AreBelow, BindsFrom, IsGreatestFrom, IsHighestFrom, AreAcceptances, Reports}
+use Rattle.acceptor.specs.Raising.{Raises, RaisesFrom}
 use Rattle.acceptor.proofs.Reporting.{higher_cases, at_least_above}
 
 -- ---- the higher of two ballots that may be none
@@ -17,7 +17,7 @@ pub higher_none : (o : Option Ballot) → higher o None ≡ o
 higher_none None = refl
 higher_none (Some a) = refl
 
-at_least_higher : (a b c : Ballot) → IsAtLeast a (Some b) → IsAtLeast b (Some c) → IsAtLeast a (Some c)
+pub at_least_higher : (a b c : Ballot) → IsAtLeast a (Some b) → IsAtLeast b (Some c) → IsAtLeast a (Some c)
 at_least_higher a b c (inl ba) more = inl (below_at_least c b a more ba)
   where
     below_at_least : (c b a : Ballot) → IsAtLeast b (Some c) → IsBelow b a → IsBelow c a
@@ -73,7 +73,16 @@ higher_second ballot (Some a) more = elim (higher_cases a ballot) as (λ _. high
     both_at_least a ballot (inl below) more = absurd ((at_least_where_not_below a ballot).0 more below)
     both_at_least a ballot (inr same) more = ap (λ (x : Ballot). let o : Option Ballot = Some x in o) (sym same)
 
-at_least_of_above : (ballot : Ballot) (o : Option Ballot) → IsAbove ballot o → IsAtLeast ballot o
+-- the higher is one of the two
+higher_is : (o p : Option Ballot) (held : Ballot) → higher o p ≡ Some held → (o ≡ Some held) ⊎ (p ≡ Some held)
+higher_is None p held is = inr is
+higher_is (Some a) None held is = inl is
+higher_is (Some a) (Some b) held is = elim (higher_cases a b) as (λ _. (Some a ≡ Some held) ⊎ (Some b ≡ Some held)) [
+  | inl is_second ↦ inr (sym is_second.0 ∙ is)
+  | inr is_first ↦ inl (sym is_first.0 ∙ is)
+]
+
+pub at_least_of_above : (ballot : Ballot) (o : Option Ballot) → IsAbove ballot o → IsAtLeast ballot o
 at_least_of_above ballot None above = tt
 at_least_of_above ballot (Some held) above = inl above
 
@@ -165,6 +174,34 @@ module _ (own ranged : ℕ → Option Ballot) where
       stays (Some a) is_own held is below = elim (below_or_at_least ballot a) as (λ _. higher (new slot) (ranged slot) ≡ higher (own slot) (ranged slot)) [
         | inl less ↦ same_own a is_own less
         | inr more ↦ from_range a is_own more (ranged slot) refl held is below
+      ]
+
+  -- promises made with others that are raised raise what each slot has promised
+  pub raises_ranged : (new : ℕ → Option Ballot) (first : ℕ) (ballot : Ballot) → RaisesFrom ranged new first ballot
+      → RaisesFrom (λ slot. higher (own slot) (ranged slot)) (λ slot. higher (own slot) (new slot)) first ballot
+  raises_ranged new first ballot raises = record {
+    kept = λ slot held from is below. elim (higher_is (own slot) (ranged slot) held is) as (λ _. higher (own slot) (new slot) ≡ higher (own slot) (ranged slot)) [
+      | inl is_own ↦ beside slot held from is below is_own (ranged slot) refl
+      | inr is_ranged ↦ ap (higher (own slot)) (raises.kept slot held from is_ranged below)
+    ];
+    raised = λ slot from more.
+        let each = at_least_each ballot (own slot) (ranged slot) more in
+        ap (higher (own slot)) (raises.raised slot from each.1) ∙ higher_second ballot (own slot) each.0;
+    others = λ slot apart. ap (higher (own slot)) (raises.others slot apart);
+  }
+    where
+      -- a slot's own promise that is above the ballot stays the higher, whether or not that of the others is raised
+      lower : (slot : ℕ) (held : Ballot) → higher (own slot) (ranged slot) ≡ Some held → IsBelow ballot held → own slot ≡ Some held → new slot ≡ Some ballot
+          → higher (own slot) (new slot) ≡ higher (own slot) (ranged slot)
+      lower slot held is below is_own now =
+          ap (higher (own slot)) now ∙ ap (λ (o : Option Ballot). higher o (Some ballot)) is_own ∙ higher_first held (Some ballot) (inl below) ∙ sym is
+
+      beside : (slot : ℕ) (held : Ballot) → IsFrom first slot → higher (own slot) (ranged slot) ≡ Some held → IsBelow ballot held → own slot ≡ Some held → (p : Option Ballot)
+          → ranged slot ≡ p → higher (own slot) (new slot) ≡ higher (own slot) (ranged slot)
+      beside slot held from is below is_own None is_ranged = lower slot held is below is_own (raises.raised slot from (subst (IsAtLeast ballot) (sym is_ranged) tt))
+      beside slot held from is below is_own (Some b) is_ranged = elim (below_or_at_least ballot b) as (λ _. higher (own slot) (new slot) ≡ higher (own slot) (ranged slot)) [
+        | inl less ↦ ap (higher (own slot)) (raises.kept slot b from is_ranged less)
+        | inr more ↦ lower slot held is below is_own (raises.raised slot from (subst (IsAtLeast ballot) (sym is_ranged) more))
       ]
 
   -- the highest promise of slots from a first one on

@@ -14,7 +14,7 @@ use Rattle.acceptor.specs.Standing.{Standing}
 use Rattle.acceptor.specs.Ranged.{IsFrom, AreBelow, IsGreatestFrom, AreAcceptances, BindsFrom, PreparesFrom}
 use Rattle.acceptor.proofs.Lists.{nothing_in, only_one}
 use Rattle.acceptor.proofs.Highest.{neither_below, in_front, behind_front}
-use Rattle.acceptor.proofs.Running.{from_or_apart}
+use Rattle.acceptor.proofs.Ranging.{from_or_apart}
 use Rattle.acceptor.proofs.Promising.{highest_below}
 
 -- ---- rising lists of the same entries are one

@@ -1,5 +1,5 @@
 -- Ranges: a slot has the ballot of the last one that begins at it or below, and a range that is pushed takes the place of those behind it.
-use Rattle.std.proofs.Common.{◌≡◌, ℕ, zero, suc, ◌+◌, ◌-◌, ◌<◌, ◌≤◌, Bool, true, false, if◌then◌else◌, leb, ltb, List, [], ◌∷◌, ◌++◌, length, take, drop, get_or, Option, Some, None, inl, inr, refl, sym, ap, subst, ◌∙◌, arith, le-leb, leb-true, leb-false}
+use Rattle.std.proofs.Common.{◌≡◌, ℕ, zero, suc, ◌+◌, ◌-◌, ◌<◌, ◌≤◌, Bool, true, false, if◌then◌else◌, leb, ltb, List, [], ◌∷◌, ◌++◌, length, take, drop, get_or, Option, Some, None, ◌⊎◌, inl, inr, refl, sym, ap, subst, ◌∙◌, arith, le-leb, leb-true, leb-false}
 use Rattle.std.specs.Option.{option_or, unwrap_or}
 use Rattle.std.proofs.Math.Seq.{take-suc}
 use Rattle.std.proofs.lemmas.List.{take-append-drop}
@@ -14,6 +14,16 @@ use Rattle.ballots.specs.Limits.{max_slot}
 use Rattle.ballots.proofs.CallerLemmas.{below_carried}
 use Rattle.acceptor.specs.Ranges.{last_begun, ranged_at, Rise}
 use Rattle.acceptor.specs.Ranged.{IsFrom, AreBelow, BindsFrom, IsHighestFrom}
+
+-- a slot from the first one on, or another
+pub from_or_apart : (first slot : ℕ) → IsFrom first slot ⊎ (¬ IsFrom first slot)
+from_or_apart first slot = elim (leb_tells first slot) as (λ _. IsFrom first slot ⊎ (¬ IsFrom first slot)) [
+  | inl from ↦ elim (leb_tells slot max_slot) as (λ _. IsFrom first slot ⊎ (¬ IsFrom first slot)) [
+    | inl within ↦ inl (from.1, within.1)
+    | inr beyond ↦ inr (λ is_from. let less = beyond.1 in let most = is_from.1 in absurd (omega (arith, less, most)))
+  ]
+  | inr below ↦ inr (λ is_from. let less = below.1 in let least = is_from.0 in absurd (omega (arith, less, least)))
+]
 
 -- ---- what holds up to a place of a list, and from it on
 
@@ -54,7 +64,7 @@ some_is a b is = ap (λ (o : Option Ballot). unwrap_or o a) is
 -- ---- the last range that begins at a slot or below
 
 -- what one range alone gives a slot
-abbrev begun : ℕ × Ballot → ℕ → Option Ballot
+abbrev pub begun : ℕ × Ballot → ℕ → Option Ballot
 begun range slot = if leb range.0 slot then Some range.1 else None
 
 begun_here : (range : ℕ × Ballot) (slot : ℕ) → range.0 ≤ slot → begun range slot ≡ Some range.1
@@ -106,7 +116,7 @@ last_is xs slot m range within is earlier later =
 pub ranged_within : (xs : List (ℕ × Ballot)) (slot : ℕ) → slot ≤ max_slot → ranged_at xs slot ≡ last_begun xs slot
 ranged_within xs slot le = ap (λ (b : Bool). let o : Option Ballot = if b then last_begun xs slot else None in o) (le-leb slot max_slot le)
 
-ranged_beyond : (xs : List (ℕ × Ballot)) (slot : ℕ) → max_slot < slot → ranged_at xs slot ≡ None
+pub ranged_beyond : (xs : List (ℕ × Ballot)) (slot : ℕ) → max_slot < slot → ranged_at xs slot ≡ None
 ranged_beyond xs slot lt = ap (λ (b : Bool). let o : Option Ballot = if b then last_begun xs slot else None in o) (lt-leb slot max_slot lt)
 
 -- where no range begins at the slot or below, and where the one at n - 1 is the last that does
@@ -125,7 +135,7 @@ ranged_some xs slot (suc m) range le some within is earlier later =
 -- ---- ballots rise with the slots
 
 -- what a slot has is the ballot of one of the ranges
-given_by : (P : Ballot → Type 0) (xs : List (ℕ × Ballot)) (slot : ℕ) (ballot : Ballot) → AllByRecursion (λ range. P range.1) xs → last_begun xs slot ≡ Some ballot → P ballot
+pub given_by : (P : Ballot → Type 0) (xs : List (ℕ × Ballot)) (slot : ℕ) (ballot : Ballot) → AllByRecursion (λ range. P range.1) xs → last_begun xs slot ≡ Some ballot → P ballot
 given_by P [] slot ballot all is = absurd (none_is_some ballot is)
 given_by P (x ∷ xs) slot ballot (here, rest) is = by (last_begun xs slot) refl (λ b. given_by P xs slot b rest)
   where
@@ -142,7 +152,7 @@ abbrev pub AtLeast : Option Ballot → Option Ballot → Type 0
 AtLeast None o = o ≡ None
 AtLeast (Some ballot) o = IsAtLeast ballot o
 
-rises_with_slots : (xs : List (ℕ × Ballot)) (slot later : ℕ) → slot ≤ later → Rise xs → AtLeast (last_begun xs later) (last_begun xs slot)
+pub rises_with_slots : (xs : List (ℕ × Ballot)) (slot later : ℕ) → slot ≤ later → Rise xs → AtLeast (last_begun xs later) (last_begun xs slot)
 rises_with_slots [] slot later le rise = refl
 rises_with_slots (x ∷ xs) slot later le rise = by (last_begun xs later) (last_begun xs slot) refl (rises_with_slots xs slot later le rise.1)
   where
@@ -197,7 +207,7 @@ highest_at_last xs first le rise (Some ballot) is = record {
 -- ---- a range that is pushed
 
 -- what is above the ballot of a slot is above all ranges that begin at it or below
-all_below : (xs : List (ℕ × Ballot)) (slot : ℕ) (ballot : Ballot) → Rise xs → IsAbove ballot (last_begun xs slot) → AllByRecursion (λ range. range.0 ≤ slot → IsBelow range.1 ballot) xs
+pub all_below : (xs : List (ℕ × Ballot)) (slot : ℕ) (ballot : Ballot) → Rise xs → IsAbove ballot (last_begun xs slot) → AllByRecursion (λ range. range.0 ≤ slot → IsBelow range.1 ballot) xs
 all_below [] slot ballot rise above = tt
 all_below (x ∷ xs) slot ballot rise above = by (last_begun xs slot) refl above (all_below xs slot ballot rise.1)
   where
@@ -224,7 +234,7 @@ rise_pushed [] first ballot rise all = (tt, tt)
 rise_pushed (x ∷ xs) first ballot (here, rest) (below, all) =
     (all_pushed (λ later. (x.0 < later.0) × IsBelow x.1 later.1) xs (first, ballot) here below, rise_pushed xs first ballot rest all)
 
-both : {X : Type 0} (P Q R : X → Type 0) → ((x : X) → P x → Q x → R x) → (xs : List X) → AllByRecursion P xs → AllByRecursion Q xs → AllByRecursion R xs
+pub both : {X : Type 0} (P Q R : X → Type 0) → ((x : X) → P x → Q x → R x) → (xs : List X) → AllByRecursion P xs → AllByRecursion Q xs → AllByRecursion R xs
 both P Q R implies [] p q = tt
 both P Q R implies (x ∷ xs) (p, ps) (q, qs) = (implies x p q, both P Q R implies xs ps qs)
 

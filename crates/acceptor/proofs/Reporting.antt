@@ -25,10 +25,10 @@ use Rattle.acceptor.proofs.Ranging.{weaker, all_pushed}
 
 -- ---- the higher of two ballots
 
-below_if : (a b : Ballot) → is_lt (ballot_cmp a b) ≡ true → IsBelow a b
+pub below_if : (a b : Ballot) → is_lt (ballot_cmp a b) ≡ true → IsBelow a b
 below_if a b e = grind (arith, nat_tests)
 
-not_below_if : (a b : Ballot) → is_lt (ballot_cmp a b) ≡ false → IsBelow a b → ⊥
+pub not_below_if : (a b : Ballot) → is_lt (ballot_cmp a b) ≡ false → IsBelow a b → ⊥
 not_below_if a b e (inl lt) = grind (arith, nat_tests)
 not_below_if a b e (inr both) = grind (arith, nat_tests)
 
@@ -160,9 +160,9 @@ keys_filtered p (x ∷ xs) = by (p x.0) (keys_filtered p xs)
     by false same = same
 
 -- an entry that passes is kept, and what is kept is an entry that passes
-kept_in : (p : ℕ × Acceptance → Bool) (xs : List (ℕ × Acceptance)) (x : ℕ × Acceptance) → p x ≡ true → Contains xs x → Contains (filter p xs) x
+pub kept_in : {X : Type 0} (p : X → Bool) (xs : List X) (x : X) → p x ≡ true → Contains xs x → Contains (filter p xs) x
 kept_in p [] x pass has = absurd (nothing_in x has)
-kept_in p (y ∷ ys) x pass has = by (p y) refl (λ rest. kept_in p ys x pass rest) (Contains-append_cases (y ∷ []) ys x has)
+kept_in {X} p (y ∷ ys) x pass has = by (p y) refl (λ rest. kept_in p ys x pass rest) (Contains-append_cases (y ∷ []) ys x has)
   where
     by : (b : Bool) → p y ≡ b → (Contains ys x → Contains (filter p ys) x) → Contains (y ∷ []) x ⊎ Contains ys x → Contains (if b then y ∷ filter p ys else filter p ys) x
     by true e rest (inl here) = Contains-append_left (y ∷ []) (filter p ys) x here
@@ -170,9 +170,9 @@ kept_in p (y ∷ ys) x pass has = by (p y) refl (λ rest. kept_in p ys x pass re
     by false e rest (inl here) = absurd (let no : true ≡ false = sym pass ∙ ap p (only_one y x here) ∙ e in cc)
     by false e rest (inr there) = rest there
 
-was_in : (p : ℕ × Acceptance → Bool) (xs : List (ℕ × Acceptance)) (x : ℕ × Acceptance) → Contains (filter p xs) x → Contains xs x
+pub was_in : {X : Type 0} (p : X → Bool) (xs : List X) (x : X) → Contains (filter p xs) x → Contains xs x
 was_in p [] x has = has
-was_in p (y ∷ ys) x has = by (p y) (λ rest. was_in p ys x rest) has
+was_in {X} p (y ∷ ys) x has = by (p y) (λ rest. was_in p ys x rest) has
   where
     by : (b : Bool) → (Contains (filter p ys) x → Contains ys x) → Contains (if b then y ∷ filter p ys else filter p ys) x → Contains (y ∷ ys) x
     by true rest has = elim (Contains-append_cases (y ∷ []) (filter p ys) x has) as (λ _. Contains (y ∷ ys) x) [

@@ -1,19 +1,22 @@
 -- One record more: what its slot then has is what the records then leave.
-use Rattle.std.proofs.Common.{◌≡◌, ◌≢◌, ◌≤◌, ℕ, nat_eq, true, false, ◌⊎◌, inl, inr, List, [], ◌∷◌, ◌++◌, Bool, if◌then◌else◌, Option, Some, None, refl, sym, ap, subst, ◌∙◌, arith}
+use Rattle.std.proofs.Common.{◌≡◌, ◌≢◌, ◌≤◌, ℕ, nat_eq, nat_le, ◌&&◌, leb, true, false, ◌⊎◌, inl, inr, List, [], ◌∷◌, ◌++◌, Bool, if◌then◌else◌, Option, Some, None, refl, sym, ap, subst, ◌∙◌, arith, le-leb, leb-true}
 use Rattle.std.specs.Option.{option_map}
 use Rattle.std.specs.List.{Contains, filter_map, cons_option}
 use Rattle.std.proofs.lemmas.Bool.Decides.{eqb_tells}
 use Rattle.std.proofs.lemmas.List.{append_assoc, append-nil}
 use Rattle.std.proofs.lemmas.List.Elements.{filter_map-append, Contains-append_left, Contains-append_right, Contains-append_cases}
 use Rattle.ballots.specs.Ballot.{Ballot, IsBelow, IsAtLeast}
+use Rattle.ballots.specs.Limits.{max_slot}
 use Rattle.ballots.specs.declared.acceptance.Acceptance.{Acceptance}
 use Rattle.ballots.specs.declared.record.Record.{Record}
-use Rattle.ballots.specs.declared.record.Record.TheVariants.{Began, Promised, Accepted}
+use Rattle.ballots.specs.declared.record.Record.TheVariants.{Began, Promised, Accepted, PromisedFrom}
 use Rattle.acceptor.specs.Standing.{Standing, IsSame}
-use Rattle.acceptor.specs.Raising.{Raises, Applies}
+use Rattle.acceptor.specs.Ranged.{IsFrom}
+use Rattle.acceptor.specs.Raising.{Raises, RaisesFrom, Applies}
 use Rattle.acceptor.specs.Restored.{promise_in, acceptance_in, IsHighest, IsLastHighest, IsRestored, round_in, IsHighestRound}
 use Rattle.ballots.proofs.CallerLemmas.{below_or_at_least, not_below_itself, not_below_more}
 use Rattle.acceptor.proofs.Lists.{nothing_in, one_in, only_one}
+use Rattle.acceptor.proofs.Ranging.{from_or_apart}
 
 -- ---- the highest of one ballot more
 
@@ -116,6 +119,20 @@ skipped {X} slot other x apart =
       | inr differs ↦ ap (λ (b : Bool). let o : Option X = if b then Some x else None in o) differs.0
     ]
 
+-- what a record of slots from a first one on gives each of them, and another
+given_from : (first slot : ℕ) (ballot : Ballot) → IsFrom first slot → promise_in slot (PromisedFrom first ballot) ≡ Some ballot
+given_from first slot ballot from =
+    ap (λ (b : Bool). let o : Option Ballot = if b && nat_le slot max_slot then Some ballot else None in o) (le-leb first slot from.0)
+    ∙ ap (λ (b : Bool). let o : Option Ballot = if b then Some ballot else None in o) (le-leb slot max_slot from.1)
+
+skipped_from : (first slot : ℕ) (ballot : Ballot) → ¬ IsFrom first slot → promise_in slot (PromisedFrom first ballot) ≡ None
+skipped_from first slot ballot apart = by (leb first slot) (leb slot max_slot) refl refl
+  where
+    by : (b c : Bool) → leb first slot ≡ b → leb slot max_slot ≡ c → (let o : Option Ballot = if b && c then Some ballot else None in o) ≡ None
+    by true true from within = absurd (apart (leb-true first slot from, leb-true slot max_slot within))
+    by true false from beyond = refl
+    by false c below within = refl
+
 module _ (records : List Record) (r : Record) (slot : ℕ) where
   promises_more : (old new : ℕ → Option Ballot) (b : Ballot) → promise_in slot r ≡ Some b → ((s : ℕ) → s ≢ slot → promise_in s r ≡ None)
       → ((s : ℕ) → IsHighest (filter_map (promise_in s) records) (old s)) → Raises (λ held. held) old new slot b
@@ -160,6 +177,26 @@ promised_more records slot ballot old new is raises same =
           (subst (IsLastHighest (filter_map (acceptance_in s) records)) (sym (same s)) (is.acceptances s));
     }
 
+pub promised_from_more : (records : List Record) (first : ℕ) (ballot : Ballot) (old new : Standing) → IsRestored records old → RaisesFrom old.promised new.promised first ballot
+    → ((s : ℕ) → new.accepted s ≡ old.accepted s) → IsRestored (records ++ PromisedFrom first ballot ∷ []) new
+promised_from_more records first ballot old new is raises same =
+    let r = PromisedFrom first ballot in
+    record {
+      promises = λ s. elim (from_or_apart first s) as (λ _. IsHighest (filter_map (promise_in s) (records ++ r ∷ [])) (new.promised s)) [
+        | inl from ↦ subst (λ (l : List Ballot). IsHighest l (new.promised s)) (sym (one_more (promise_in s) records r ballot (given_from first s ballot from)))
+            (highest_of_more (filter_map (promise_in s) records) (old.promised s) (new.promised s) ballot (is.promises s) (λ held. raises.kept s held from)
+            (λ more. raises.raised s from (of_option (old.promised s) more)))
+        | inr apart ↦ subst (λ (l : List Ballot). IsHighest l (new.promised s)) (sym (nothing_more (promise_in s) records r (skipped_from first s ballot apart)))
+            (subst (IsHighest (filter_map (promise_in s) records)) (sym (raises.others s apart)) (is.promises s))
+      ];
+      acceptances = λ s. subst (λ (l : List Acceptance). IsLastHighest l (new.accepted s)) (sym (nothing_more (acceptance_in s) records r refl))
+          (subst (IsLastHighest (filter_map (acceptance_in s) records)) (sym (same s)) (is.acceptances s));
+    }
+  where
+    of_option : (o : Option Ballot) → IsAtLeast ballot (option_map (λ held. held) o) → IsAtLeast ballot o
+    of_option None more = tt
+    of_option (Some held) more = more
+
 pub accepted_more : (records : List Record) (slot : ℕ) (a : Acceptance) (old new : Standing) → IsRestored records old
     → Raises (λ held. held) old.promised new.promised slot a.ballot → Raises (λ (held : Acceptance). held.ballot) old.accepted new.accepted slot a
     → IsRestored (records ++ Accepted slot a ∷ []) new
@@ -181,6 +218,7 @@ pub restored_with : (records : List Record) (old new : Standing) (told : Record)
 restored_with records old new (Began ballot) is same = began_more records ballot new (restored_as_before records old new same is)
 restored_with records old new (Promised slot ballot) is (raises, same) = promised_more records slot ballot old new is raises same
 restored_with records old new (Accepted slot a) is (raises, accepts) = accepted_more records slot a old new is raises accepts
+restored_with records old new (PromisedFrom first ballot) is (raises, same) = promised_from_more records first ballot old new is raises same
 
 -- ---- rounds
 

@@ -1,21 +1,22 @@
 -- Turns of an acceptor, one by one: what is promised only rises, and what is kept of each turn leaves what the run leaves.
-use Rattle.std.proofs.Common.{◌≡◌, ℕ, arith, ◌⊎◌, inl, inr, List, [], ◌∷◌, ◌++◌, Option, Some, None, refl, sym, ap, subst, ◌∙◌}
+use Rattle.std.proofs.Common.{◌≡◌, ℕ, inl, inr, List, [], ◌∷◌, ◌++◌, Option, Some, None, refl, sym, ap, subst, ◌∙◌}
 use Rattle.std.specs.List.{filter_map, cons_option}
-use Rattle.std.proofs.lemmas.Bool.Decides.{eqb_tells, leb_tells}
+use Rattle.std.proofs.lemmas.Bool.Decides.{eqb_tells}
 use Rattle.std.proofs.lemmas.List.{append_assoc, append-nil}
 use Rattle.ballots.specs.Ballot.{Ballot, IsBelow, IsAbove, IsAtLeast}
-use Rattle.ballots.specs.Limits.{max_slot}
 use Rattle.ballots.specs.Slots.{SetsSlot}
 use Rattle.ballots.specs.declared.acceptance.Acceptance.{Acceptance}
 use Rattle.ballots.specs.declared.record.Record.{Record}
-use Rattle.ballots.specs.declared.record.Record.TheVariants.{Promised, Accepted}
+use Rattle.ballots.specs.declared.record.Record.TheVariants.{Promised, Accepted, PromisedFrom}
 use Rattle.ballots.proofs.CallerLemmas.{below_carried}
 use Rattle.acceptor.specs.declared.answer.Answer.TheVariants.{Promise, PromiseFrom, Granted, Nack}
 use Rattle.acceptor.specs.Standing.{Standing, Sets}
 use Rattle.acceptor.specs.Restored.{IsRestored}
-use Rattle.acceptor.specs.Ranged.{IsFrom, AreBelow, BindsFrom}
-use Rattle.acceptor.specs.Turns.{Turn, PrepareTurn, PrepareFromTurn, AcceptTurn, Takes, IsStandingAfter, MakesNoRange, MakeNoRange, record_of}
-use Rattle.acceptor.proofs.Restoring.{promised_more, accepted_more, restored_as_before}
+use Rattle.acceptor.specs.Ranged.{AreBelow, BindsFrom, SetsFrom}
+use Rattle.acceptor.specs.Turns.{Turn, PrepareTurn, PrepareFromTurn, AcceptTurn, Takes, IsStandingAfter, record_of}
+use Rattle.acceptor.proofs.Ranging.{from_or_apart}
+use Rattle.acceptor.proofs.Inserting.{binds_raised}
+use Rattle.acceptor.proofs.Restoring.{promised_more, accepted_more, promised_from_more, restored_as_before}
 use Rattle.acceptor.proofs.Granting.{at_least_accepted, above_at_least, at_least_same, sets_raised}
 
 -- ---- what is promised only rises
@@ -42,16 +43,6 @@ same_rises old new same other held is = (held, same other ∙ is, inr refl)
 at_least_of_above : (ballot : Ballot) (o : Option Ballot) → IsAbove ballot o → IsAtLeast ballot o
 at_least_of_above ballot None above = tt
 at_least_of_above ballot (Some held) above = inl above
-
--- a slot from the first one on, or another
-pub from_or_apart : (first slot : ℕ) → IsFrom first slot ⊎ (¬ IsFrom first slot)
-from_or_apart first slot = elim (leb_tells first slot) as (λ _. IsFrom first slot ⊎ (¬ IsFrom first slot)) [
-  | inl from ↦ elim (leb_tells slot max_slot) as (λ _. IsFrom first slot ⊎ (¬ IsFrom first slot)) [
-    | inl within ↦ inl (from.1, within.1)
-    | inr beyond ↦ inr (λ is_from. let less = beyond.1 in let most = is_from.1 in absurd (omega (arith, less, most)))
-  ]
-  | inr below ↦ inr (λ is_from. let less = below.1 in let least = is_from.0 in absurd (omega (arith, less, least)))
-]
 
 pub bound_rises : (old new : ℕ → Option Ballot) (first : ℕ) (ballot : Ballot) → AreBelow old first ballot → BindsFrom old new first ballot → Rises old new
 bound_rises old new first ballot below binds other held is =
@@ -120,27 +111,32 @@ grant_restored records old new slot a is more sets =
     (sets_raised (λ (held : Acceptance). held.ballot) old.accepted new.accepted slot a sets.acceptances
     (at_least_accepted slot records a.ballot (old.promised slot) (old.accepted slot) (is.promises slot) (is.acceptances slot) more))
 
-turn_restored : (records : List Record) (old new : Standing) (turn : Turn) → IsRestored records old → MakesNoRange turn → Takes old new turn
-    → IsRestored (records ++ cons_option (record_of turn) []) new
-turn_restored records old new (PrepareTurn slot ballot (Promise report)) is alone (above, reported, sets) = promise_restored records old new slot ballot is above sets
-turn_restored records old new (PrepareTurn slot ballot (Nack promised)) is alone (held, more, same) = rw append-nil (restored_as_before records old new same is)
-turn_restored records old new (PrepareTurn slot ballot (PromiseFrom reports)) is alone never = absurd never
-turn_restored records old new (PrepareTurn slot ballot Granted) is alone never = absurd never
-turn_restored records old new (PrepareFromTurn first ballot (PromiseFrom reports)) is ranged takes = absurd ranged
-turn_restored records old new (PrepareFromTurn first ballot (Nack promised)) is alone refuses = rw append-nil (restored_as_before records old new refuses.same is)
-turn_restored records old new (PrepareFromTurn first ballot (Promise report)) is alone never = absurd never
-turn_restored records old new (PrepareFromTurn first ballot Granted) is alone never = absurd never
-turn_restored records old new (AcceptTurn slot proposal Granted) is alone (more, sets) = grant_restored records old new slot proposal is more sets
-turn_restored records old new (AcceptTurn slot proposal (Nack promised)) is alone (held, below, same) = rw append-nil (restored_as_before records old new same is)
-turn_restored records old new (AcceptTurn slot proposal (Promise report)) is alone never = absurd never
-turn_restored records old new (AcceptTurn slot proposal (PromiseFrom reports)) is alone never = absurd never
+pub promise_from_restored : (records : List Record) (old new : Standing) (first : ℕ) (ballot : Ballot) → IsRestored records old → AreBelow old.promised first ballot
+    → SetsFrom old new first ballot → IsRestored (records ++ PromisedFrom first ballot ∷ []) new
+promise_from_restored records old new first ballot is below sets =
+    promised_from_more records first ballot old new is (binds_raised old.promised new.promised first ballot below sets.promises) sets.acceptances
 
-pub run_restored : (records : List Record) (old : Standing) (turns : List Turn) (new : Standing) → IsRestored records old → MakeNoRange turns → IsStandingAfter old turns new
+turn_restored : (records : List Record) (old new : Standing) (turn : Turn) → IsRestored records old → Takes old new turn
+    → IsRestored (records ++ cons_option (record_of turn) []) new
+turn_restored records old new (PrepareTurn slot ballot (Promise report)) is (above, reported, sets) = promise_restored records old new slot ballot is above sets
+turn_restored records old new (PrepareTurn slot ballot (Nack promised)) is (held, more, same) = rw append-nil (restored_as_before records old new same is)
+turn_restored records old new (PrepareTurn slot ballot (PromiseFrom reports)) is never = absurd never
+turn_restored records old new (PrepareTurn slot ballot Granted) is never = absurd never
+turn_restored records old new (PrepareFromTurn first ballot (PromiseFrom reports)) is (below, reported, sets) = promise_from_restored records old new first ballot is below sets
+turn_restored records old new (PrepareFromTurn first ballot (Nack promised)) is refuses = rw append-nil (restored_as_before records old new refuses.same is)
+turn_restored records old new (PrepareFromTurn first ballot (Promise report)) is never = absurd never
+turn_restored records old new (PrepareFromTurn first ballot Granted) is never = absurd never
+turn_restored records old new (AcceptTurn slot proposal Granted) is (more, sets) = grant_restored records old new slot proposal is more sets
+turn_restored records old new (AcceptTurn slot proposal (Nack promised)) is (held, below, same) = rw append-nil (restored_as_before records old new same is)
+turn_restored records old new (AcceptTurn slot proposal (Promise report)) is never = absurd never
+turn_restored records old new (AcceptTurn slot proposal (PromiseFrom reports)) is never = absurd never
+
+pub run_restored : (records : List Record) (old : Standing) (turns : List Turn) (new : Standing) → IsRestored records old → IsStandingAfter old turns new
     → IsRestored (records ++ filter_map record_of turns) new
-run_restored records old [] new is alone same = rw append-nil (restored_as_before records old new same is)
-run_restored records old (turn ∷ turns) new is (alone, rest) (mid, takes, runs) =
+run_restored records old [] new is same = rw append-nil (restored_as_before records old new same is)
+run_restored records old (turn ∷ turns) new is (mid, takes, runs) =
     subst (λ (l : List Record). IsRestored l new) (onto records (record_of turn) (filter_map record_of turns))
-    (run_restored (records ++ cons_option (record_of turn) []) mid turns new (turn_restored records old mid turn is alone takes) rest runs)
+    (run_restored (records ++ cons_option (record_of turn) []) mid turns new (turn_restored records old mid turn is takes) runs)
   where
     onto : (xs : List Record) (o : Option Record) (ys : List Record) → (xs ++ cons_option o []) ++ ys ≡ xs ++ cons_option o ys
     onto xs None ys = ap (λ (l : List Record). l ++ ys) (append-nil xs)

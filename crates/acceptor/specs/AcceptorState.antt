@@ -4,7 +4,7 @@ use Rattle.std.specs.Map.{lookup}
 use Rattle.ballots.specs.Ballot.{Ballot}
 use Rattle.ballots.specs.declared.acceptance.Acceptance.{Acceptance}
 use Rattle.ballots.specs.declared.record.Record.{Record}
-use Rattle.ballots.specs.declared.record.Record.TheVariants.{Began, Promised, Accepted}
+use Rattle.ballots.specs.declared.record.Record.TheVariants.{Began, Promised, Accepted, PromisedFrom}
 use Rattle.acceptor.specs.Standing.{Standing}
 use Rattle.acceptor.specs.Ranges.{higher, ranged_at}
 
@@ -16,11 +16,12 @@ pub record AcceptorState : Type 0 where
   pub acceptances : List (ℕ × Acceptance)
   pub room : ℕ
 
--- the record can be applied without memory: one of a slot wants room, and the begin of an attempt wants none
+-- the record can be applied without memory: one of slots wants room, and the begin of an attempt wants none
 abbrev pub HasRoomFor : AcceptorState → Record → Type 0
 HasRoomFor state (Began ballot) = Unit {0}
 HasRoomFor state (Promised slot ballot) = 0 < state.room
 HasRoomFor state (Accepted slot acceptance) = 0 < state.room
+HasRoomFor state (PromisedFrom first ballot) = 0 < state.room
 
 -- a slot's entry in a map by slots
 abbrev pub at : {X : Type 0} → List (ℕ × X) → ℕ → Option X

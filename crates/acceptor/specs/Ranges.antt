@@ -7,6 +7,11 @@ use Rattle.std.specs.Ordering.{is_lt}
 use Rattle.ballots.specs.Ballot.{Ballot, IsBelow, ballot_cmp}
 use Rattle.ballots.specs.Limits.{max_slot}
 
+-- by first slots what all slots from them on have promised together, and how many more there is room for without memory
+pub record RangesState : Type 0 where
+  pub ranges : List (ℕ × Ballot)
+  pub room : ℕ
+
 -- the higher of two ballots that may be none: none is below every ballot
 abbrev pub higher : Option Ballot → Option Ballot → Option Ballot
 higher None b = b

@@ -1,10 +1,9 @@
 -- Turns of an acceptor, one after the other: Lamport, "Paxos Made Simple", sections 2.2 and 3.
 use Rattle.std.specs.Prelude.{ℕ, List, [], ◌∷◌, Option, Some, None}
-use Rattle.std.specs.List.{AllByRecursion}
 use Rattle.ballots.specs.Ballot.{Ballot}
 use Rattle.ballots.specs.declared.acceptance.Acceptance.{Acceptance}
 use Rattle.ballots.specs.declared.record.Record.{Record}
-use Rattle.ballots.specs.declared.record.Record.TheVariants.{Promised, Accepted}
+use Rattle.ballots.specs.declared.record.Record.TheVariants.{Promised, Accepted, PromisedFrom}
 use Rattle.acceptor.specs.declared.answer.Answer.{Answer}
 use Rattle.acceptor.specs.declared.answer.Answer.TheVariants.{Promise, PromiseFrom, Granted, Nack}
 use Rattle.acceptor.specs.Standing.{Standing, IsSame}
@@ -28,27 +27,16 @@ abbrev pub IsStandingAfter : Standing → List Turn → Standing → Type 0
 IsStandingAfter old [] new = IsSame old new
 IsStandingAfter old (turn ∷ turns) new = (mid : Standing) × Takes old mid turn × IsStandingAfter mid turns new
 
--- whether the turn makes no promise of all slots from a first one on
-abbrev pub MakesNoRange : Turn → Type 0
-MakesNoRange (PrepareFromTurn first ballot (PromiseFrom reports)) = ⊥
-MakesNoRange (PrepareFromTurn first ballot (Promise report)) = Unit {0}
-MakesNoRange (PrepareFromTurn first ballot Granted) = Unit {0}
-MakesNoRange (PrepareFromTurn first ballot (Nack promised)) = Unit {0}
-MakesNoRange (PrepareTurn slot ballot answer) = Unit {0}
-MakesNoRange (AcceptTurn slot proposal answer) = Unit {0}
-
--- none of these turns makes such a promise
-abbrev pub MakeNoRange : List Turn → Type 0
-MakeNoRange turns = AllByRecursion MakesNoRange turns
-
--- The record that is kept before the answer goes out: of a refusal there is none. A promise of all slots from a first
--- one on has no record either, so it is not kept: what records leave is said of turns without one alone.
+-- the record that is kept before the answer goes out: of a refusal there is none
 abbrev pub record_of : Turn → Option Record
 record_of (PrepareTurn slot ballot (Promise report)) = Some (Promised slot ballot)
 record_of (PrepareTurn slot ballot (PromiseFrom reports)) = None
 record_of (PrepareTurn slot ballot Granted) = None
 record_of (PrepareTurn slot ballot (Nack promised)) = None
-record_of (PrepareFromTurn first ballot answer) = None
+record_of (PrepareFromTurn first ballot (PromiseFrom reports)) = Some (PromisedFrom first ballot)
+record_of (PrepareFromTurn first ballot (Promise report)) = None
+record_of (PrepareFromTurn first ballot Granted) = None
+record_of (PrepareFromTurn first ballot (Nack promised)) = None
 record_of (AcceptTurn slot proposal Granted) = Some (Accepted slot proposal)
 record_of (AcceptTurn slot proposal (Promise report)) = None
 record_of (AcceptTurn slot proposal (PromiseFrom reports)) = None

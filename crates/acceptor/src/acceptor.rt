@@ -40,9 +40,9 @@ impl Model for Acceptor {
 
     ghost view = { λ a. record {
       promises = a.promises.entries;
-      ranges = a.ranges;
+      ranges = a.ranges.ranges;
       acceptances = a.acceptances.entries;
-      room = min (spare a.promises) (spare a.acceptances);
+      room = min (min (spare a.promises) (spare a.acceptances)) a.ranges.room;
     } };
 }
 
@@ -158,9 +158,10 @@ impl Acceptor {
             }
         }
 
-        // The promise is the last step that memory can be refused to.
+        // What takes memory comes first. Room for one promise more stays, for a record.
         let reports = self.reports_from(slot)?;
-        self.ranges.promise_from(slot, ballot)?;
+        self.ranges.reserve(2)?;
+        self.ranges.put_from(slot, ballot);
         Ok(Answer::PromiseFrom(reports))
     }
 
@@ -193,9 +194,10 @@ impl Acceptor {
         self.reserve(1)
     }
 
-    /// Takes a record as the last of those that the acceptor has: a promise raises what its slot has promised, and an
-    /// acceptance that and what its slot has accepted, unless that was at a higher ballot. It takes no memory:
-    /// [`Acceptor::make_room`] makes the room, of which this uses one place at most.
+    /// Takes a record as the last of those that the acceptor has: a promise raises what its slot has promised, one of all
+    /// slots from a first one on what each of them has, and an acceptance that and what its slot has accepted, unless that
+    /// was at a higher ballot. It takes no memory: [`Acceptor::make_room`] makes the room, of which this uses one place at
+    /// most. A promise of all slots from a first one on that is below another such takes time with the number of these.
     pub fn apply(&mut self, told: Record)
         requires { HasRoomFor self.old told }
         ensures restored { (records : List Kept) → IsRestored records (standing self.old)
@@ -210,6 +212,7 @@ impl Acceptor {
                 raise_promise(&mut self.promises, slot, acceptance.ballot);
                 raise_acceptance(&mut self.acceptances, slot, acceptance);
             }
+            Record::PromisedFrom(first, ballot) => self.ranges.raise_from(first, ballot),
         }
     }
 
@@ -223,7 +226,7 @@ impl Acceptor {
         Ok(())
     }
 
-    // Makes room for records of so many slots.
+    // Makes room for so many records.
     fn reserve(&mut self, slots: usize) -> Result<(), OutOfMemory>
         ensures ready { OnOk result (slots ≤ self.new.room) }
         ensures same { IsSame (standing self.old) (standing self.new) }
@@ -231,7 +234,8 @@ impl Acceptor {
         ensures memory { OnErr result (self.old.room < slots) }
     {
         self.promises.reserve(slots)?;
-        self.acceptances.reserve(slots)
+        self.acceptances.reserve(slots)?;
+        self.ranges.reserve(slots)
     }
 
     // Promises the ballot of a proposal, and keeps that as accepted. Where memory is refused, nothing has changed. Room

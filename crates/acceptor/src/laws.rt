@@ -7,7 +7,7 @@ ghost use Rattle.std.specs.Map.{keys_of};
 ghost use Rattle.ballots.specs.Ballot.{Ballot as Pair, IsBelow, IsAbove, IsAtLeast};
 ghost use Rattle.ballots.specs.declared.acceptance.Acceptance.{Acceptance};
 ghost use Rattle.ballots.specs.declared.record.Record.{Record as Kept};
-ghost use Rattle.ballots.specs.declared.record.Record.TheVariants.{Promised, Accepted};
+ghost use Rattle.ballots.specs.declared.record.Record.TheVariants.{Promised, Accepted, PromisedFrom};
 ghost use Rattle.acceptor.specs.declared.answer.Answer.{Answer};
 ghost use Rattle.acceptor.specs.declared.answer.Answer.TheVariants.{Promise, PromiseFrom, Granted, Nack};
 ghost use Rattle.acceptor.specs.Standing.{Standing, IsFresh};
@@ -15,7 +15,7 @@ ghost use Rattle.acceptor.specs.Answering.{Prepares, Accepts};
 ghost use Rattle.acceptor.specs.Ranged.{IsFrom, Reports, PreparesFrom};
 ghost use Rattle.acceptor.specs.Raising.{Applies};
 ghost use Rattle.acceptor.specs.Restored.{IsRestored, IsHighestRound};
-ghost use Rattle.acceptor.specs.Turns.{Turn, IsStandingAfter, MakeNoRange, record_of};
+ghost use Rattle.acceptor.specs.Turns.{Turn, IsStandingAfter, record_of};
 
 /// What an acceptor answers to a Prepare, of one slot or of all slots from a first one on, and to an Accept, is one
 /// answer.
@@ -131,13 +131,14 @@ pub fn applied_is_restored()
 
 /// A node that keeps a record of each promise and each acceptance has back, when it starts again, all that it answered
 /// by: what an answer leaves is what the records leave with the answer's own behind them, and a refusal leaves what
-/// they leave (section 2.5). `run` says it of all answers from any start on, from a fresh one too. A promise of all
-/// slots from a first one on has no record, so `run` speaks of answers without one alone: a node that is to start again
-/// cannot give it.
+/// they leave (section 2.5). `run` says it of all answers from any start on, from a fresh one too.
 pub fn answers_are_as_recorded()
     ensures promised { (records : List Kept) (old new : Standing) (slot : ℕ) (ballot : Pair)
         (report : Option Acceptance) → IsRestored records old → Prepares old new slot ballot (Promise report)
         → IsRestored (records ++ Promised slot ballot ∷ []) new }
+    ensures promised_from { (records : List Kept) (old new : Standing) (first : ℕ) (ballot : Pair) (reports : Reports)
+        → IsRestored records old → PreparesFrom old new first ballot (PromiseFrom reports)
+        → IsRestored (records ++ PromisedFrom first ballot ∷ []) new }
     ensures granted { (records : List Kept) (old new : Standing) (slot : ℕ) (proposal : Acceptance)
         → IsRestored records old → Accepts old new slot proposal Granted
         → IsRestored (records ++ Accepted slot proposal ∷ []) new }
@@ -149,5 +150,5 @@ pub fn answers_are_as_recorded()
         (promised : Pair) → IsRestored records old → Accepts old new slot proposal (Nack promised)
         → IsRestored records new }
     ensures run { (records : List Kept) (old new : Standing) (turns : List Turn) → IsRestored records old
-        → MakeNoRange turns → IsStandingAfter old turns new → IsRestored (records ++ filter_map record_of turns) new }
+        → IsStandingAfter old turns new → IsRestored (records ++ filter_map record_of turns) new }
 {}

@@ -14,12 +14,14 @@
 //! let acceptor = Acceptor::from_records(alloc, &records)?;  // when the node starts again: it has back every promise
 //! ```
 //!
-//! `answers_are_as_recorded` in [`laws`] says that both ways leave the same. A promise of all slots from a first one on has
-//! no record, so a node that starts again does not give it:
+//! `answers_are_as_recorded` in [`laws`] says that both ways leave the same, also of a promise of all slots from a first one
+//! on, which has a record of its own:
 //!
 //! ```text
 //! let promised = acceptor.would_promise_from(slot, ballot); // changes nothing
-//! let answer = acceptor.on_prepare_from(slot, ballot)?;     // slots below this one stay as they are
+//! acceptor.make_room(slot)?;
+//! storage.keep(&Record::PromisedFrom(slot, ballot))?;       // before anything is answered
+//! acceptor.apply(Record::PromisedFrom(slot, ballot));       // slots below this one stay as they are
 //! ```
 #![tactic(auto)]
 

@@ -1,10 +1,13 @@
 //! Promises of all slots from a first one on.
 
-ghost use Rattle.std.specs.Prelude.{◌≡◌, ℕ, ◌<◌, ◌≤◌, [], take, drop, length, nat_lt, OnOk, OnErr};
+ghost use Rattle.std.specs.Prelude.{◌≡◌, ℕ, ◌+◌, ◌<◌, ◌≤◌, ◌||◌, [], take, drop, length, nat_lt, OnOk, OnErr};
 ghost use Rattle.std.specs.List.{AllByRecursion};
+ghost use Rattle.std.specs.Ordering.{is_lt};
+ghost use Rattle.ballots.specs.Ballot.{ballot_cmp, IsAbove};
 ghost use Rattle.ballots.specs.Limits.{max_slot};
 ghost use Rattle.acceptor.specs.Ranges.{Rise, higher, ranged_at};
 ghost use Rattle.acceptor.specs.Ranged.{AreBelow, BindsFrom, IsHighestFrom};
+ghost use Rattle.acceptor.specs.Raising.{RaisesFrom};
 
 use ballots::{Ballot, MAX_SLOT, OutOfMemory, Slot};
 use std::alloc::Global;
@@ -18,13 +21,15 @@ pub(crate) struct Ranges {
 }
 
 impl Model for Ranges {
-    ghost use Rattle.std.specs.Prelude.{ℕ, List};
-    ghost use Rattle.ballots.specs.Ballot.{Ballot};
-    ghost use Rattle.acceptor.specs.Ranges.{Rise};
+    ghost use Rattle.std.specs.Prelude.{◌-◌, vec_len, vec_capacity};
+    ghost use Rattle.acceptor.specs.Ranges.{RangesState, Rise};
 
-    ghost Value = { List (ℕ × Ballot) };
+    ghost Value = { RangesState };
 
-    ghost view = { λ r. r.ranges.items };
+    ghost view = { λ r. record {
+      ranges = r.ranges.items;
+      room = vec_capacity r.ranges - vec_len r.ranges;
+    } };
 
     ghost invariant = { λ r. Rise r.ranges.items };
 }
@@ -32,7 +37,7 @@ impl Model for Ranges {
 impl Ranges {
     /// No promise. They take memory from this allocator as they grow.
     pub(crate) fn new(alloc: Global) -> Ranges
-        ensures { result ≡ [] }
+        ensures { result.ranges ≡ [] }
     {
         Ranges {
             ranges: Vec::new(alloc),
@@ -41,7 +46,7 @@ impl Ranges {
 
     /// What the slot has promised with others: the ballot of the last range that begins at it or below.
     pub(crate) fn promised(&self, slot: Slot) -> Option<Ballot>
-        ensures { result ≡ ranged_at self.now slot }
+        ensures { result ≡ ranged_at self.now.ranges slot }
     {
         let begun = begun_below(&self.ranges, slot.number() + 1);
         if begun == 0 {
@@ -53,24 +58,78 @@ impl Ranges {
 
     /// The highest of these promises, which the last slot has made.
     pub(crate) fn highest(&self) -> Option<Ballot>
-        ensures { (first : ℕ) → first ≤ max_slot → IsHighestFrom (ranged_at self.now) first result }
+        ensures { (first : ℕ) → first ≤ max_slot → IsHighestFrom (ranged_at self.now.ranges) first result }
     {
         let _ = &self.ranges;
         self.promised(Slot::new(MAX_SLOT)?)
     }
 
-    /// Promises the ballot for all slots from this one on. It takes the place of ranges that begin there or later:
-    /// where memory is refused, nothing has changed.
-    pub(crate) fn promise_from(&mut self, first: Slot, ballot: Ballot) -> Result<(), OutOfMemory>
-        requires { AreBelow (ranged_at self.old) first ballot }
-        ensures ok { OnOk result (BindsFrom (ranged_at self.old) (ranged_at self.new) first ballot) }
-        ensures err { OnErr result (self.new ≡ self.old) }
+    /// Makes room for so many promises. Nothing else changes, whatever the answer.
+    pub(crate) fn reserve(&mut self, count: usize) -> Result<(), OutOfMemory>
+        ensures ready { OnOk result (count ≤ self.new.room) }
+        ensures same { self.new.ranges ≡ self.old.ranges }
+        ensures room { self.old.room ≤ self.new.room }
+        ensures memory { OnErr result (self.old.room < count) }
     {
-        self.ranges.reserve(1)?;
+        self.ranges.reserve(count)
+    }
+
+    /// Promises the ballot for all slots from this one on, without memory. It takes the place of ranges that begin there
+    /// or later.
+    pub(crate) fn put_from(&mut self, first: Slot, ballot: Ballot)
+        requires below { AreBelow (ranged_at self.old.ranges) first ballot }
+        requires room { 0 < self.old.room }
+        ensures binds { BindsFrom (ranged_at self.old.ranges) (ranged_at self.new.ranges) first ballot }
+        ensures room { self.old.room ≤ self.new.room + 1 }
+    {
         let earlier = begun_below(&self.ranges, first.number());
         self.ranges.truncate(earlier);
         self.ranges.push_reserved((first, ballot));
-        Ok(())
+    }
+
+    /// Makes this the promise of each slot from this one on, unless that has a higher one, without memory. A promise above
+    /// all others takes two binary searches and a push. One that comes out of order takes time with the number of ranges.
+    pub(crate) fn raise_from(&mut self, first: Slot, ballot: Ballot)
+        requires { 0 < self.old.room }
+        ensures raises { RaisesFrom (ranged_at self.old.ranges) (ranged_at self.new.ranges) first ballot }
+        ensures room { self.old.room ≤ self.new.room + 1 }
+    {
+        match self.highest() {
+            Some(highest) if !highest.is_below(ballot) => self.raise_among(first, ballot),
+            _ => self.put_from(first, ballot),
+        }
+    }
+
+    // The same of a promise that is not above all others.
+    fn raise_among(&mut self, first: Slot, ballot: Ballot)
+        requires { 0 < self.old.room }
+        ensures raises { RaisesFrom (ranged_at self.old.ranges) (ranged_at self.new.ranges) first ballot }
+        ensures room { self.old.room ≤ self.new.room + 1 }
+    {
+        let _ = &self.ranges;
+        match self.promised(first) {
+            Some(held) if !held.is_below(ballot) => {}
+            _ => self.insert_from(first, ballot),
+        }
+    }
+
+    // The same of a promise that is above that of its first slot: it takes the place of the ranges that begin there or
+    // later and have no higher ballot.
+    fn insert_from(&mut self, first: Slot, ballot: Ballot)
+        requires above { IsAbove ballot (ranged_at self.old.ranges first) }
+        requires room { 0 < self.old.room }
+        ensures raises { RaisesFrom (ranged_at self.old.ranges) (ranged_at self.new.ranges) first ballot }
+        ensures room { self.old.room ≤ self.new.room + 1 }
+    {
+        self.ranges.retain(
+            |range: &(Slot, Ballot)| -> bool
+                ensures { result ≡ (nat_lt range.now.0 first || is_lt (ballot_cmp ballot range.now.1)) }
+            { range.0.number() < first.number() || ballot.is_below(range.1) },
+        );
+        let earlier = begun_below(&self.ranges, first.number());
+        let Ok(_) = self.ranges.insert(earlier, (first, ballot)) else {
+            unreachable!()
+        };
     }
 }
 

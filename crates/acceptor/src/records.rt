@@ -25,6 +25,7 @@ fn higher_round(highest: u32, told: &Record) -> u32
         Record::Began(ballot) => highest.max(ballot.round()),
         Record::Promised(_, _) => highest,
         Record::Accepted(_, _) => highest,
+        Record::PromisedFrom(_, _) => highest,
     }
 }
 
@@ -35,5 +36,6 @@ pub(crate) fn copied(told: &Record) -> Result<Record, OutOfMemory>
         Record::Began(ballot) => Record::Began(*ballot),
         Record::Promised(slot, ballot) => Record::Promised(*slot, *ballot),
         Record::Accepted(slot, acceptance) => Record::Accepted(*slot, acceptance.clone()?),
+        Record::PromisedFrom(first, ballot) => Record::PromisedFrom(*first, *ballot),
     })
 }

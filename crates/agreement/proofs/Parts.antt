@@ -46,6 +46,7 @@ no_round : (kept : Record) → IsAnswer kept → filter_map round_in (kept ∷ [
 no_round (kept_as.Began ballot) is = absurd is
 no_round (kept_as.Promised slot ballot) is = refl
 no_round (kept_as.Accepted slot acceptance) is = refl
+no_round (kept_as.PromisedFrom first ballot) is = refl
 
 pub answered_round : (records : List Record) (highest : ℕ) (kept : Record) → IsAnswer kept → IsHighestRound records highest
     → IsHighestRound (records ++ kept ∷ []) highest

@@ -48,7 +48,7 @@ refused_gives state seen sender slot ballot promised step it = (
   ),
 )
 
--- ---- a question
+-- ---- an Ask
 
 pub asked_gives : LearnsJust → (state : AgreementState) (seen sender slot : ℕ) (values : List Value) (messages : List Message) (step : Step)
     → IsPrefix (decided_at state.log) values → messages ≡ asked_of state.log.node values slot → Sends step messages seen Nothing
@@ -65,7 +65,7 @@ asked_gives just state seen sender slot values messages step prefix are it = (
   ),
 )
 
--- ---- one's own question
+-- ---- one's own Ask
 
 pub question_gives : (state : AgreementState) (slot : ℕ) (step : Step)
     → ((views : Views) (values : List Value) → Has state views → HasPrefix state.config.members views.learner_calls values → (slot ≡ length values) × (slot < state.config.slot_limit))

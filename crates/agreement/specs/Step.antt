@@ -92,6 +92,7 @@ abbrev pub IsAnswer : Record → Type 0
 IsAnswer (kept_as.Began ballot) = ⊥
 IsAnswer (kept_as.Promised slot ballot) = Unit {0}
 IsAnswer (kept_as.Accepted slot acceptance) = Unit {0}
+IsAnswer (kept_as.PromisedFrom first ballot) = Unit {0}
 
 -- the log has room for what is learned
 abbrev pub HasRoomForLearned : LogState → Option Value → Type 0
@@ -180,7 +181,7 @@ MessageGives state m (Err SlotsSpent) = ⊥
 MessageGives state m (Err RoundsSpent) = ⊥
 MessageGives state m (Err OutOfMemory) = IsMessageOf state.config m
 
--- ---- a question
+-- ---- an Ask
 
 -- What is due where the node asks for what is decided from the first free slot on.
 abbrev pub AskGives : AgreementState → Step → Type 0

@@ -13,18 +13,18 @@
 //! ```
 //!
 //! All nodes are opened with one [`AgreementConfig`], what they agree on before they start, which is made once. Here are attempts
-//! and questions, what is due to each of the seven bodies of messages, where each change leaves a node, and what it has
+//! and Asks, what is due to each of the seven bodies of messages, where each change leaves a node, and what it has
 //! learned.
 #![tactic(auto)]
 
 mod agreement;
+mod asks;
 mod attempts;
 mod config;
 mod handling;
 mod learned;
 mod messages;
 mod proposals;
-mod questions;
 mod range;
 mod refusal;
 mod replies;

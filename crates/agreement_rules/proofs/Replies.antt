@@ -165,7 +165,7 @@ pub promise_answered : MajorityLaw → (config : AgreementConfig) (me : ℕ) (vi
 promise_answered law config me views p plan (accept, answers, is) =
     subst (PromiseAnswered config.members me views.proposer_calls p) (sym (ap sends_of is)) (promise_replied law config.members me views.proposer_calls p accept answers)
 
--- ---- a question
+-- ---- an Ask
 
 abbrev pub AskedLaws : Type 0
 AskedLaws = ((node from : ℕ) (prefix : List Value) → length (asked_of node prefix from) ≡ min 16 (length prefix - from))

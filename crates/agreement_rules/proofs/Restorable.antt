@@ -5,11 +5,13 @@ use Rattle.std.specs.Option.{option_map}
 use Rattle.std.proofs.lemmas.Bool.{cases_lt}
 use Rattle.std.proofs.lemmas.List.{append-nil, append_assoc}
 use Rattle.ballots.specs.Ballot.{Ballot, IsBelow, IsAtLeast}
+use Rattle.ballots.specs.Limits.{max_slot}
 use Rattle.ballots.specs.declared.record.Record.{Record}
-use Rattle.ballots.specs.declared.record.Record.TheVariants.{Began, Promised, Accepted}
+use Rattle.ballots.specs.declared.record.Record.TheVariants.{Began, Promised, Accepted, PromisedFrom}
 use Rattle.ballots.proofs.CallerLemmas.{at_least_where_not_below, below_or_at_least}
 use Rattle.acceptor.specs.Standing.{Standing, IsFresh}
-use Rattle.acceptor.specs.Raising.{Raises, Applies}
+use Rattle.acceptor.specs.Ranged.{IsFrom}
+use Rattle.acceptor.specs.Raising.{Raises, RaisesFrom, Applies}
 use Rattle.acceptor.specs.Restored.{IsRestored, IsHighestRound, round_in}
 use Rattle.agreement_rules.proofs.Lists.{nothing_in, in_front, behind_front, first_or_rest}
 
@@ -63,6 +65,66 @@ module _ {X : Type 0} (ballot_of : X → Ballot) (old : ℕ → Option X) (slot 
   raise : (new : ℕ → Option X) × Raises ballot_of old new slot entry
   raise = raise_by (old slot) refl
 
+-- what a slot from a first one on has promised where all of them promise a ballot: the higher of both
+module _ (old : ℕ → Option Ballot) (first : ℕ) (ballot : Ballot) where
+  record RaisedAt (slot : ℕ) : Type 0 where
+    promise : Option Ballot
+    kept : (held : Ballot) → IsFrom first slot → old slot ≡ Some held → IsBelow ballot held → promise ≡ old slot
+    raised : IsFrom first slot → IsAtLeast ballot (old slot) → promise ≡ Some ballot
+    others : (IsFrom first slot → ⊥) → promise ≡ old slot
+
+  raised_of : (slot : ℕ) (o : Option Ballot) → old slot ≡ o → IsFrom first slot → RaisedAt slot
+  raised_of slot None none from = record {
+    promise = Some ballot;
+    kept = λ held _ has below. absurd (let no : None ≡ Some held = sym none ∙ has in cc);
+    raised = λ _ at_least. refl;
+    others = λ apart. absurd (apart from);
+  }
+  raised_of slot (Some held) some from = elim (below_or_at_least ballot held) as (λ _. RaisedAt slot) [
+    | inl below ↦ record {
+      promise = old slot;
+      kept = λ other _ has lower. refl;
+      raised = λ _ at_least. absurd ((at_least_where_not_below held ballot).0 (subst (IsAtLeast ballot) some at_least) below);
+      others = λ apart. refl;
+    }
+    | inr at_least ↦ record {
+      promise = Some ballot;
+      kept = λ other _ has lower.
+          let same : Some held ≡ Some other = sym some ∙ has in
+          let one : other ≡ held = cc in
+          absurd ((at_least_where_not_below held ballot).0 at_least (subst (IsBelow ballot) one lower));
+      raised = λ _ again. refl;
+      others = λ apart. absurd (apart from);
+    }
+  ]
+
+  apart_at : (slot : ℕ) → (IsFrom first slot → ⊥) → RaisedAt slot
+  apart_at slot apart = record {
+    promise = old slot;
+    kept = λ held from has below. absurd (apart from);
+    raised = λ from at_least. absurd (apart from);
+    others = λ _. refl;
+  }
+
+  raised_at : (slot : ℕ) → RaisedAt slot
+  raised_at slot = elim (cases_lt slot first) as (λ _. RaisedAt slot) [
+    | inl below ↦ apart_at slot (λ from. let le = from.0 in omega (arith, below, le))
+    | inr above ↦ elim (cases_lt max_slot slot) as (λ _. RaisedAt slot) [
+      | inl beyond ↦ apart_at slot (λ from. let le = from.1 in omega (arith, beyond, le))
+      | inr within ↦ raised_of slot (old slot) refl (above, within)
+    ]
+  ]
+
+  raise_from : (new : ℕ → Option Ballot) × RaisesFrom old new first ballot
+  raise_from = (
+    λ slot. (raised_at slot).promise,
+    record {
+      kept = λ slot held from has below. (raised_at slot).kept held from has below;
+      raised = λ slot from at_least. (raised_at slot).raised from at_least;
+      others = λ slot apart. (raised_at slot).others apart;
+    },
+  )
+
 applies : (old : Standing) (r : Record) → (new : Standing) × Applies old new r
 applies old (Began ballot) = (old, record { promises = λ s. refl; acceptances = λ s. refl })
 applies old (Promised slot ballot) =
@@ -72,6 +134,9 @@ applies old (Accepted slot acceptance) =
     let promised = raise (λ held. held) old.promised slot acceptance.ballot in
     let accepted = raise (λ held. held.ballot) old.accepted slot acceptance in
     (record { promised = promised.0; accepted = accepted.0 }, (promised.1, accepted.1))
+applies old (PromisedFrom first ballot) =
+    let promised = raise_from old.promised first ballot in
+    (record { promised = promised.0; accepted = old.accepted }, (promised.1, λ s. refl))
 
 -- ---- all of them
 

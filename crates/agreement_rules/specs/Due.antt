@@ -57,7 +57,7 @@ answers_with views kept reply =
 
 -- ---- a tick
 
--- what a tick is for: an attempt to have a value chosen for a slot, or a question for what is decided from a slot on
+-- what a tick is for: an attempt to have a value chosen for a slot, or an Ask for what is decided from a slot on
 pub data Aim : Type 0 where
   Attempts : ℕ → Value → Aim
   AsksFrom : ℕ → Aim

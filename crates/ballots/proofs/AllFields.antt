@@ -1,8 +1,8 @@
 -- Messages and records written as all fields.
 use Rattle.std.proofs.Common.{◌≡◌, ℕ, [], Some, None, refl}
 use Rattle.ballots.specs.declared.message.numbers.TheConstants.{PREPARE, PROMISE, NACK, ACCEPT, ACCEPTED, ASK, DECIDED}
-use Rattle.ballots.specs.declared.record.numbers.TheConstants.{BEGAN, PROMISED, ACCEPTED as KEPT}
-use Rattle.ballots.specs.declared.record.Record.TheVariants.{Began, Promised, Accepted as Kept}
+use Rattle.ballots.specs.declared.record.numbers.TheConstants.{BEGAN, PROMISED, ACCEPTED as KEPT, PROMISED_FROM}
+use Rattle.ballots.specs.declared.record.Record.TheVariants.{Began, Promised, Accepted as Kept, PromisedFrom}
 use Rattle.ballots.specs.Record.{canonical_record}
 use Rattle.ballots.specs.declared.acceptance.Acceptance.{Acceptance}
 use Rattle.ballots.specs.declared.value.Value.{Value}
@@ -60,4 +60,8 @@ pub kept_writes : (slot : ℕ) (a : Acceptance) → canonical_record (Kept slot 
 unfolding canonical_record all_record_fields_text
 kept_writes slot a = refl
 
-pub ruleset all_record_fields = (began_writes, promised_writes, kept_writes)
+pub promised_from_writes : (first : ℕ) (b : Ballot) → canonical_record (PromisedFrom first b) ≡ all_record_fields_text PROMISED_FROM first b.round b.node []
+unfolding canonical_record all_record_fields_text
+promised_from_writes first b = refl
+
+pub ruleset all_record_fields = (began_writes, promised_writes, kept_writes, promised_from_writes)

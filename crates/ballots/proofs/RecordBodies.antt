@@ -4,14 +4,14 @@ use Rattle.std.proofs.lemmas.Bool.{eqb-true, eqb-false, cases_lt}
 use Rattle.proto_fields.specs.Reading.{◌>>=◌}
 use Rattle.proto_fields.proofs.Steps.{bind_ok, bind_err, chosen, ok_is, err_is, not_ok, not_err}
 use Rattle.ballots.specs.declared.slot.TheConstants.{MAX_SLOT}
-use Rattle.ballots.specs.declared.record.numbers.TheConstants.{BEGAN, PROMISED, ACCEPTED}
+use Rattle.ballots.specs.declared.record.numbers.TheConstants.{BEGAN, PROMISED, ACCEPTED, PROMISED_FROM}
 use Rattle.ballots.specs.declared.record.Record.{Record}
-use Rattle.ballots.specs.declared.record.Record.TheVariants.{Began, Promised, Accepted}
+use Rattle.ballots.specs.declared.record.Record.TheVariants.{Began, Promised, Accepted, PromisedFrom}
 use Rattle.ballots.specs.declared.fault.MessageFault.{MessageFault}
 use Rattle.ballots.specs.declared.fault.MessageFault.TheVariants.{BadKind}
 use Rattle.ballots.specs.MessageReading.{known, within, ballot_at, acceptance_at}
-use Rattle.ballots.specs.Record.{RecordParts, MeansSlot, MeansRecord, RecordBodyFault, in_began, in_promised, in_accepted, RecordPartsFault, IsUnknownRecordKind}
-use Rattle.ballots.specs.RecordReading.{began_at, promised_at, accepted_at, kept_at, record_at}
+use Rattle.ballots.specs.Record.{RecordParts, MeansSlot, MeansRecord, RecordBodyFault, in_began, in_promised, in_accepted, in_promised_from, RecordPartsFault, IsUnknownRecordKind}
+use Rattle.ballots.specs.RecordReading.{began_at, promised_at, accepted_at, promised_from_at, kept_at, record_at}
 use Rattle.ballots.proofs.Numbers.{within_takes, within_again, within_faults, ballot_takes, ballot_again, ballot_faults, acceptance_takes, acceptance_again, acceptance_faults, known_takes, known_faults}
 
 abbrev Read : Type 0
@@ -25,8 +25,14 @@ then_acceptance slot p = acceptance_at p.round p.node p.value >>= λ a. Ok (Acce
 abbrev then_promise : ℕ → RecordParts → Read
 then_promise slot p = ballot_at p.round p.node >>= λ b. Ok (Promised slot b)
 
+abbrev then_promise_from : ℕ → RecordParts → Read
+then_promise_from first p = ballot_at p.round p.node >>= λ b. Ok (PromisedFrom first b)
+
+abbrev from_promised_from : ℕ → RecordParts → Read
+from_promised_from kind p = cond (eqb kind PROMISED_FROM) (promised_from_at p) (Err BadKind)
+
 abbrev from_accepted : ℕ → RecordParts → Read
-from_accepted kind p = cond (eqb kind ACCEPTED) (accepted_at p) (Err BadKind)
+from_accepted kind p = cond (eqb kind ACCEPTED) (accepted_at p) (from_promised_from kind p)
 
 abbrev from_promised : ℕ → RecordParts → Read
 from_promised kind p = cond (eqb kind PROMISED) (promised_at p) (from_accepted kind p)
@@ -56,6 +62,12 @@ takes_accepted p r kind e =
     let a = bind_ok (acceptance_at p.round p.node p.value) (λ a. Ok (Accepted s.0 a)) r s.2 in
     subst (MeansRecord p) (ok_is (Accepted s.0 a.0) r a.2) (kind, slot_means p.slot s.0 s.1, acceptance_takes _ _ _ a.0 a.1)
 
+takes_promised_from : (p : RecordParts) (r : Record) → p.kind ≡ Some PROMISED_FROM → promised_from_at p ≡ Ok r → MeansRecord p r
+takes_promised_from p r kind e =
+    let s = bind_ok (within MAX_SLOT p.slot) (λ s. then_promise_from s p) r e in
+    let b = bind_ok (ballot_at p.round p.node) (λ b. Ok (PromisedFrom s.0 b)) r s.2 in
+    subst (MeansRecord p) (ok_is (PromisedFrom s.0 b.0) r b.2) (kind, slot_means p.slot s.0 s.1, ballot_takes _ _ b.0 b.1)
+
 is_kind : (p : RecordParts) (kind other : ℕ) → eqb kind other ≡ true → p.kind ≡ Some kind → p.kind ≡ Some other
 is_kind p kind other e is = is ∙ ap Some (eqb-true _ _ e)
 
@@ -67,9 +79,13 @@ kept_takes kind p r is e =
           elim (chosen (eqb kind PROMISED) (promised_at p) (from_accepted kind p) (Ok r) h.1) [
             | inl i ↦ takes_promised p r (is_kind p kind PROMISED i.0 is) i.1
             | inr i ↦
-                elim (chosen (eqb kind ACCEPTED) (accepted_at p) (Err BadKind) (Ok r) i.1) [
+                elim (chosen (eqb kind ACCEPTED) (accepted_at p) (from_promised_from kind p) (Ok r) i.1) [
                   | inl j ↦ takes_accepted p r (is_kind p kind ACCEPTED j.0 is) j.1
-                  | inr j ↦ not_err r BadKind j.1
+                  | inr j ↦
+                      elim (chosen (eqb kind PROMISED_FROM) (promised_from_at p) (Err BadKind) (Ok r) j.1) [
+                        | inl k ↦ takes_promised_from p r (is_kind p kind PROMISED_FROM k.0 is) k.1
+                        | inr k ↦ not_err r BadKind k.1
+                      ]
                 ]
           ]
     ]
@@ -93,6 +109,7 @@ pub record_again : (p : RecordParts) (r : Record) → MeansRecord p r → record
 record_again p (Began b) h = kind_again p BEGAN h.0 ∙ rw (ballot_again _ _ b h.1) refl
 record_again p (Promised s b) h = kind_again p PROMISED h.0 ∙ rw (slot_again p.slot s h.1, ballot_again _ _ b h.2) refl
 record_again p (Accepted s a) h = kind_again p ACCEPTED h.0 ∙ rw (slot_again p.slot s h.1, acceptance_again _ _ _ a h.2) refl
+record_again p (PromisedFrom s b) h = kind_again p PROMISED_FROM h.0 ∙ rw (slot_again p.slot s h.1, ballot_again _ _ b h.2) refl
 
 -- ---- each fault stands
 
@@ -125,9 +142,21 @@ faults_accepted p fault kind e =
           ]
     ]
 
--- a kind that is none of the three
-no_kind : (p : RecordParts) (kind : ℕ) → p.kind ≡ Some kind → kind ≢ BEGAN → kind ≢ PROMISED → kind ≢ ACCEPTED → IsUnknownRecordKind p
-no_kind p kind is a b c =
+faults_promised_from : (p : RecordParts) (fault : MessageFault) → p.kind ≡ Some PROMISED_FROM → promised_from_at p ≡ Err fault → RecordBodyFault p fault
+faults_promised_from p fault kind e =
+    elim (bind_err {B = Record} (within MAX_SLOT p.slot) (λ s. then_promise_from s p) fault e) [
+      | inl h ↦ in_promised_from kind (inl (within_faults MAX_SLOT p.slot fault h))
+      | inr s ↦
+          elim (bind_err {B = Record} (ballot_at p.round p.node) (λ b. Ok (PromisedFrom s.0 b)) fault s.2) [
+            | inl h ↦ in_promised_from kind (inr (ballot_faults _ _ fault h))
+            | inr b ↦ not_ok _ _ b.2
+          ]
+    ]
+
+-- a kind that is none of the four
+no_kind : (p : RecordParts) (kind : ℕ) → p.kind ≡ Some kind → kind ≢ BEGAN → kind ≢ PROMISED → kind ≢ ACCEPTED → kind ≢ PROMISED_FROM
+    → IsUnknownRecordKind p
+no_kind p kind is a b c d =
     record {
       kind = kind;
       is = is;
@@ -142,9 +171,16 @@ kept_faults kind p fault is e =
           elim (chosen (eqb kind PROMISED) (promised_at p) (from_accepted kind p) (Err fault) h.1) [
             | inl i ↦ inr (inr (faults_promised p fault (is_kind p kind PROMISED i.0 is) i.1))
             | inr i ↦
-                elim (chosen (eqb kind ACCEPTED) (accepted_at p) (Err BadKind) (Err fault) i.1) [
+                elim (chosen (eqb kind ACCEPTED) (accepted_at p) (from_promised_from kind p) (Err fault) i.1) [
                   | inl j ↦ inr (inr (faults_accepted p fault (is_kind p kind ACCEPTED j.0 is) j.1))
-                  | inr j ↦ inr (inl (sym (err_is BadKind fault j.1), no_kind p kind is (eqb-false _ _ h.0) (eqb-false _ _ i.0) (eqb-false _ _ j.0)))
+                  | inr j ↦
+                      elim (chosen (eqb kind PROMISED_FROM) (promised_from_at p) (Err BadKind) (Err fault) j.1) [
+                        | inl k ↦ inr (inr (faults_promised_from p fault (is_kind p kind PROMISED_FROM k.0 is) k.1))
+                        | inr k ↦ inr (inl (
+                          sym (err_is BadKind fault k.1),
+                          no_kind p kind is (eqb-false _ _ h.0) (eqb-false _ _ i.0) (eqb-false _ _ j.0) (eqb-false _ _ k.0),
+                        ))
+                      ]
                 ]
           ]
     ]

@@ -6,10 +6,10 @@ use Rattle.proto_fields.specs.Field.{Field, FitsField, is_default, present}
 use Rattle.proto_fields.specs.Meaning.{number_in, bytes_in, number_meant, bytes_meant}
 use Rattle.proto_fields.proofs.Texts.{fields_text-encodes}
 use Rattle.ballots.specs.declared.slot.TheConstants.{MAX_SLOT}
-use Rattle.ballots.specs.declared.record.numbers.TheConstants.{KIND, SLOT, ROUND, NODE, VALUE, BEGAN, PROMISED, ACCEPTED}
+use Rattle.ballots.specs.declared.record.numbers.TheConstants.{KIND, SLOT, ROUND, NODE, VALUE, BEGAN, PROMISED, ACCEPTED, PROMISED_FROM}
 use Rattle.ballots.specs.declared.value.Value.{Value}
 use Rattle.ballots.specs.declared.record.Record.{Record}
-use Rattle.ballots.specs.declared.record.Record.TheVariants.{Began, Promised, Accepted}
+use Rattle.ballots.specs.declared.record.Record.TheVariants.{Began, Promised, Accepted, PromisedFrom}
 use Rattle.ballots.specs.Ballot.{Ballot, IsBallot}
 use Rattle.ballots.specs.Message.{IsValue}
 use Rattle.ballots.specs.Record.{RecordParts, record_parts_of, MeansRecord, IsRecordInRange, IsRecordText, began_fields, slot_fields, kept_ballot_fields, kept_value_fields, record_fields, canonical_record}
@@ -20,7 +20,7 @@ use Rattle.ballots.proofs.Canonical.{number_fits, all_fit-append, all_fit-filter
 began_fits : AllByRecursion FitsField began_fields
 began_fits = (number_fits KIND BEGAN (omega arith, omega arith) (omega arith), tt)
 
-slot_fits : (kind slot : ℕ) → kind ≤ ACCEPTED → slot ≤ MAX_SLOT → AllByRecursion FitsField (slot_fields kind slot)
+slot_fits : (kind slot : ℕ) → kind ≤ PROMISED_FROM → slot ≤ MAX_SLOT → AllByRecursion FitsField (slot_fields kind slot)
 slot_fits kind slot a b =
     (number_fits KIND kind (omega arith, omega arith) (omega arith), (number_fits SLOT slot (omega arith, omega arith) (omega arith), tt))
 
@@ -37,6 +37,7 @@ all_fits (Promised s b) h = all_fit-append (slot_fields PROMISED s) (kept_ballot
 all_fits (Accepted s a) h =
     all_fit-append (slot_fields ACCEPTED s) (kept_ballot_fields a.ballot ++ kept_value_fields a.value) (slot_fits ACCEPTED s (omega arith) h.0)
     (all_fit-append (kept_ballot_fields a.ballot) (kept_value_fields a.value) (ballot_fits a.ballot h.1.0) (value_fits a.value h.1.1))
+all_fits (PromisedFrom s b) h = all_fit-append (slot_fields PROMISED_FROM s) (kept_ballot_fields b) (slot_fits PROMISED_FROM s (omega arith) h.0) (ballot_fits b h.1)
 
 -- ---- each field means what it says, written or left out
 
@@ -57,6 +58,7 @@ fields_single : (r : Record) → are_single (record_fields r) ≡ true
 fields_single (Began b) = refl
 fields_single (Promised s b) = refl
 fields_single (Accepted s a) = refl
+fields_single (PromisedFrom s b) = refl
 
 fields_mean : (r : Record) → IsRecordInRange r → MeansRecord (record_parts_of (record_fields r)) r
 unfolding number_meant bytes_meant
@@ -67,6 +69,7 @@ fields_mean (Accepted s a) h = (
   record { slot_is = refl; within = h.0 },
   (record { round_is = refl; node_is = refl; within = h.1.0 }, record { bytes_are = refl; within = h.1.1 }),
 )
+fields_mean (PromisedFrom s b) h = (refl, record { slot_is = refl; within = h.0 }, record { round_is = refl; node_is = refl; within = h.1 })
 
 pub canonical_means : (r : Record) → IsRecordInRange r → IsRecordText (canonical_record r) r
 unfolding canonical_record

@@ -7,7 +7,7 @@ use Rattle.std.proofs.Math.Nat.{pow-suc}
 use Rattle.proto_fields.specs.Varint.{digits, varint_text}
 use Rattle.proto_fields.specs.Field.{Field, Bytes, wire_type, is_default, held_text, field_text}
 use Rattle.ballots.specs.declared.record.Record.{Record}
-use Rattle.ballots.specs.declared.record.Record.TheVariants.{Began, Promised, Accepted as Kept}
+use Rattle.ballots.specs.declared.record.Record.TheVariants.{Began, Promised, Accepted as Kept, PromisedFrom}
 use Rattle.ballots.specs.declared.value.Value.{Value}
 use Rattle.ballots.specs.declared.value.Value.TheVariants.{Noop, Upload}
 use Rattle.ballots.specs.declared.message.Message.{Message}
@@ -17,7 +17,7 @@ use Rattle.ballots.specs.Limits.{max_upload_bytes, max_message_bytes, max_record
 use Rattle.ballots.specs.Message.{message, number_field, value_bytes, written, canonical, IsValue, IsBodyInRange, IsInRange}
 use Rattle.ballots.specs.Record.{canonical_record, IsRecordInRange}
 use Rattle.ballots.specs.AllFields.{all_fields_text, all_record_fields_text}
-use Rattle.ballots.proofs.AllFields.{prepare_writes, promise_writes, report_writes, nack_writes, accept_writes, accepted_writes, ask_writes, decided_writes, began_writes, promised_writes, kept_writes}
+use Rattle.ballots.proofs.AllFields.{prepare_writes, promise_writes, report_writes, nack_writes, accept_writes, accepted_writes, ask_writes, decided_writes, began_writes, promised_writes, kept_writes, promised_from_writes}
 use Rattle.ballots.proofs.Written.{written-append}
 
 -- ---- numbers
@@ -160,6 +160,8 @@ record_is_short (Began b) h =
     rw (began_writes b) (all_of_record_are_short 1 0 b.round b.node [] (omega arith) (omega arith) (omega (arith, h.round)) (omega (arith, h.node)) (omega arith))
 record_is_short (Promised slot b) h =
     rw (promised_writes slot b) (all_of_record_are_short 2 slot b.round b.node [] (omega arith) (omega (arith, h.0)) (omega (arith, h.1.round)) (omega (arith, h.1.node)) (omega arith))
+record_is_short (PromisedFrom first b) h =
+    rw (promised_from_writes first b) (all_of_record_are_short 4 first b.round b.node [] (omega arith) (omega (arith, h.0)) (omega (arith, h.1.round)) (omega (arith, h.1.node)) (omega arith))
 record_is_short (Kept slot a) h =
     rw (kept_writes slot a) (all_of_record_are_short 3 slot a.ballot.round a.ballot.node (value_bytes a.value) (omega arith) (omega (arith, h.0))
     (omega (arith, h.1.0.round)) (omega (arith, h.1.0.node)) (bytes_of_value a.value h.1.1))

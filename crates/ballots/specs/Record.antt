@@ -1,15 +1,15 @@
 -- What the bytes of a record mean. A record is a list of protobuf fields: 1 kind, 2 slot, 3 round and 4 node of its
--- ballot, 5 the value. Lamport, "Paxos Made Simple", sections 2.2 and 2.5, says what is to be kept; the numbers are this
--- service's own. Numbers are whole ones of 64 bits, never cut.
+-- ballot, 5 the value. Lamport, "Paxos Made Simple", sections 2.2, 2.5 and 3, says what is to be kept; the numbers are
+-- this service's own. Numbers are whole ones of 64 bits, never cut.
 use Rattle.std.specs.Prelude.{◌≡◌, ℕ, ◌<◌, ◌≤◌, ◌⊎◌, List, [], ◌∷◌, ◌++◌, Option, Some, None}
 use Rattle.proto_fields.specs.declared.fault.WireFault.TheVariants.{BadWireType}
 use Rattle.proto_fields.specs.Field.{Field, Bytes, IsFields}
 use Rattle.proto_fields.specs.Meaning.{number_meant, bytes_meant}
 use Rattle.ballots.specs.declared.slot.TheConstants.{MAX_SLOT}
-use Rattle.ballots.specs.declared.record.numbers.TheConstants.{KIND, SLOT, ROUND, NODE, VALUE, BEGAN, PROMISED, ACCEPTED}
+use Rattle.ballots.specs.declared.record.numbers.TheConstants.{KIND, SLOT, ROUND, NODE, VALUE, BEGAN, PROMISED, ACCEPTED, PROMISED_FROM}
 use Rattle.ballots.specs.declared.value.Value.{Value}
 use Rattle.ballots.specs.declared.record.Record.{Record}
-use Rattle.ballots.specs.declared.record.Record.TheVariants.{Began, Promised, Accepted}
+use Rattle.ballots.specs.declared.record.Record.TheVariants.{Began, Promised, Accepted, PromisedFrom}
 use Rattle.ballots.specs.declared.fault.MessageFault.{MessageFault}
 use Rattle.ballots.specs.declared.fault.MessageFault.TheVariants.{Wire, BadKind, OutOfMemory}
 use Rattle.ballots.specs.Ballot.{Ballot, IsBallot}
@@ -44,18 +44,22 @@ MeansRecord p (Began ballot) = (p.kind ≡ Some BEGAN) × MeansBallot p.round p.
 MeansRecord p (Promised slot ballot) = (p.kind ≡ Some PROMISED) × MeansSlot p.slot slot × MeansBallot p.round p.node ballot
 MeansRecord p (Accepted slot acceptance) =
     (p.kind ≡ Some ACCEPTED) × MeansSlot p.slot slot × MeansAcceptance p.round p.node p.value acceptance
+MeansRecord p (PromisedFrom first ballot) =
+    (p.kind ≡ Some PROMISED_FROM) × MeansSlot p.slot first × MeansBallot p.round p.node ballot
 
 -- the records that there are
 abbrev pub IsRecordInRange : Record → Type 0
 IsRecordInRange (Began ballot) = IsBallot ballot
 IsRecordInRange (Promised slot ballot) = (slot ≤ MAX_SLOT) × IsBallot ballot
 IsRecordInRange (Accepted slot acceptance) = (slot ≤ MAX_SLOT) × IsAcceptanceInRange acceptance
+IsRecordInRange (PromisedFrom first ballot) = (first ≤ MAX_SLOT) × IsBallot ballot
 
 -- what is copied where such a record is read: the bytes of an upload
 abbrev pub KeepsUpload : Record → Type 0
 KeepsUpload (Began ballot) = ⊥
 KeepsUpload (Promised slot ballot) = ⊥
 KeepsUpload (Accepted slot acceptance) = IsUploadValue acceptance.value
+KeepsUpload (PromisedFrom first ballot) = ⊥
 
 -- the text is a list of fields that mean the record
 pub record IsRecordText (text : List ℕ) (r : Record) : Type 0 where
@@ -74,12 +78,13 @@ pub data RecordBodyFault (p : RecordParts) (fault : MessageFault) : Type 0 where
   in_promised : p.kind ≡ Some PROMISED → SlotFault p.slot fault ⊎ BallotFault p.round p.node fault → RecordBodyFault p fault
   in_accepted : p.kind ≡ Some ACCEPTED → SlotFault p.slot fault ⊎ BallotFault p.round p.node fault ⊎ ValueFault p.value fault
       → RecordBodyFault p fault
+  in_promised_from : p.kind ≡ Some PROMISED_FROM → SlotFault p.slot fault ⊎ BallotFault p.round p.node fault → RecordBodyFault p fault
 
--- the kind is there, and none of the three
+-- the kind is there, and none of the four
 pub record IsUnknownRecordKind (p : RecordParts) : Type 0 where
   pub kind : ℕ
   pub is : p.kind ≡ Some kind
-  pub unknown : (kind < BEGAN) ⊎ (ACCEPTED < kind)
+  pub unknown : (kind < BEGAN) ⊎ (PROMISED_FROM < kind)
 
 -- what is wrong with fields that mean no record
 abbrev pub RecordPartsFault : RecordParts → MessageFault → Type 0
@@ -112,6 +117,7 @@ record_fields (Began ballot) = began_fields ++ kept_ballot_fields ballot
 record_fields (Promised slot ballot) = slot_fields PROMISED slot ++ kept_ballot_fields ballot
 record_fields (Accepted slot acceptance) =
     slot_fields ACCEPTED slot ++ (kept_ballot_fields acceptance.ballot ++ kept_value_fields acceptance.value)
+record_fields (PromisedFrom first ballot) = slot_fields PROMISED_FROM first ++ kept_ballot_fields ballot
 
 -- the one encoding of a record: rising field numbers, shortest varints, defaults left out
 unfoldable pub canonical_record : Record → List ℕ

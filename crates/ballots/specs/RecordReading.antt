@@ -3,9 +3,9 @@
 use Rattle.std.specs.Prelude.{ℕ, Result, Ok, Err, ◌==◌, if◌then◌else◌}
 use Rattle.proto_fields.specs.Reading.{◌>>=◌}
 use Rattle.ballots.specs.declared.slot.TheConstants.{MAX_SLOT}
-use Rattle.ballots.specs.declared.record.numbers.TheConstants.{BEGAN, PROMISED, ACCEPTED}
+use Rattle.ballots.specs.declared.record.numbers.TheConstants.{BEGAN, PROMISED, ACCEPTED, PROMISED_FROM}
 use Rattle.ballots.specs.declared.record.Record.{Record}
-use Rattle.ballots.specs.declared.record.Record.TheVariants.{Began, Promised, Accepted}
+use Rattle.ballots.specs.declared.record.Record.TheVariants.{Began, Promised, Accepted, PromisedFrom}
 use Rattle.ballots.specs.declared.fault.MessageFault.{MessageFault}
 use Rattle.ballots.specs.declared.fault.MessageFault.TheVariants.{BadKind}
 use Rattle.ballots.specs.Record.{RecordParts}
@@ -20,11 +20,15 @@ promised_at p = within MAX_SLOT p.slot >>= λ s. ballot_at p.round p.node >>= λ
 abbrev pub accepted_at : RecordParts → Result Record MessageFault
 accepted_at p = within MAX_SLOT p.slot >>= λ s. acceptance_at p.round p.node p.value >>= λ a. Ok (Accepted s a)
 
+abbrev pub promised_from_at : RecordParts → Result Record MessageFault
+promised_from_at p = within MAX_SLOT p.slot >>= λ s. ballot_at p.round p.node >>= λ b. Ok (PromisedFrom s b)
+
 unfoldable pub kept_at : ℕ → RecordParts → Result Record MessageFault
 kept_at kind p =
     if kind == BEGAN then began_at p
     else if kind == PROMISED then promised_at p
     else if kind == ACCEPTED then accepted_at p
+    else if kind == PROMISED_FROM then promised_from_at p
     else Err BadKind
 
 unfoldable pub record_at : RecordParts → Result Record MessageFault

@@ -21,7 +21,7 @@ ghost use Rattle.ballots.specs.Slots.{SetsSlot};
 ghost use Rattle.ballots.specs.Message.{message, IsMessageText, IsInRange, CarriesUpload, HasUpload, canonical, value_bytes};
 ghost use Rattle.ballots.specs.AllFields.{all_fields_text, all_record_fields_text};
 ghost use Rattle.ballots.specs.declared.record.Record.{Record as Kept};
-ghost use Rattle.ballots.specs.declared.record.Record.TheVariants.{Began, Promised, Accepted as HasAccepted};
+ghost use Rattle.ballots.specs.declared.record.Record.TheVariants.{Began, Promised, Accepted as HasAccepted, PromisedFrom};
 ghost use Rattle.ballots.specs.Record.{IsRecordText, IsRecordInRange, KeepsUpload, canonical_record};
 
 /// The limits of the definitions are these numbers, and the program's constants are the same.
@@ -133,6 +133,7 @@ pub fn only_uploads_take_memory()
     ensures record_began { (b : Pair) → KeepsUpload (Began b) → ⊥ }
     ensures record_promised { (t : ℕ) (b : Pair) → KeepsUpload (Promised t b) → ⊥ }
     ensures record_accepted { (t : ℕ) (a : Acceptance) → a.value ≡ Noop → KeepsUpload (HasAccepted t a) → ⊥ }
+    ensures record_promised_from { (t : ℕ) (b : Pair) → KeepsUpload (PromisedFrom t b) → ⊥ }
 {}
 
 /// A text means one record at most.
@@ -146,11 +147,13 @@ pub fn canonical_means_its_record()
 {}
 
 /// Whatever its kind, a record is written as all five fields in their order, those left out that are 0 or no bytes: a
-/// Began as kind 1, a Promised as kind 2, an Accepted as kind 3.
+/// Began as kind 1, a Promised as kind 2, an Accepted as kind 3, a PromisedFrom as kind 4.
 #[tactic(auto, using(crate::proofs::AllFields::all_record_fields))]
 pub fn records_write_all_fields()
     ensures began { (b : Pair) → canonical_record (Began b) ≡ all_record_fields_text 1 0 b.round b.node [] }
     ensures promised { (t : ℕ) (b : Pair) → canonical_record (Promised t b) ≡ all_record_fields_text 2 t b.round b.node [] }
     ensures accepted { (t : ℕ) (a : Acceptance) → canonical_record (HasAccepted t a)
         ≡ all_record_fields_text 3 t a.ballot.round a.ballot.node (value_bytes a.value) }
+    ensures promised_from { (t : ℕ) (b : Pair) → canonical_record (PromisedFrom t b)
+        ≡ all_record_fields_text 4 t b.round b.node [] }
 {}

@@ -1,4 +1,4 @@
-//! What nodes keep so that a restart forgets no promise (Lamport, *Paxos Made Simple*, sections 2.2 and 2.5).
+//! What nodes keep so that a restart forgets no promise (Lamport, *Paxos Made Simple*, sections 2.2, 2.5 and 3).
 
 use crate::acceptance::Acceptance;
 use crate::ballot::Ballot;
@@ -18,6 +18,9 @@ pub enum Record {
     Promised(Slot, Ballot),
     /// The slot has accepted the value at the ballot.
     Accepted(Slot, Acceptance),
+    /// The slot and all later ones, up to the last that there is, have promised the ballot (section 3, where one
+    /// message prepares infinitely many instances).
+    PromisedFrom(Slot, Ballot),
 }
 
 /// The numbers of a record's fields, and of its kinds.
@@ -25,7 +28,7 @@ pub(crate) mod numbers {
     /// Which record it is: one of the kinds below.
     pub const KIND: u32 = 1;
 
-    /// The slot that has promised or accepted.
+    /// The slot that has promised or accepted, or the first of those that have promised.
     pub const SLOT: u32 = 2;
 
     /// The round of the ballot.
@@ -45,4 +48,7 @@ pub(crate) mod numbers {
 
     /// An Accepted.
     pub const ACCEPTED: u64 = 3;
+
+    /// A PromisedFrom.
+    pub const PROMISED_FROM: u64 = 4;
 }

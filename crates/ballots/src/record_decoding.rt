@@ -6,13 +6,15 @@ ghost use Rattle.ballots.specs.declared.fault.MessageFault.TheVariants.{OutOfMem
 ghost use Rattle.ballots.specs.Gathering.{record_parts_in};
 ghost use Rattle.ballots.specs.MessageReading.{Gives, OfFields, TellsFields};
 ghost use Rattle.ballots.specs.Record.{record_parts_of, IsRecordText, IsRecordFault, KeepsUpload};
-ghost use Rattle.ballots.specs.RecordReading.{began_at, promised_at, accepted_at, kept_at, record_at};
+ghost use Rattle.ballots.specs.RecordReading.{began_at, promised_at, accepted_at, promised_from_at, kept_at, record_at};
 
 use crate::fault::MessageFault;
 use crate::fields::{Fields, gather};
 use crate::reading::{acceptance_at, ballot_at, known_number, slot_at};
 use crate::record::Record;
-use crate::record::numbers::{ACCEPTED, BEGAN, KIND, NODE, PROMISED, ROUND, SLOT, VALUE};
+use crate::record::numbers::{
+    ACCEPTED, BEGAN, KIND, NODE, PROMISED, PROMISED_FROM, ROUND, SLOT, VALUE,
+};
 use std::alloc::Global;
 
 #[tactic(auto, using(crate::proofs::Steps::steps))]
@@ -45,6 +47,15 @@ fn accepted_of(alloc: Global, fields: &Fields<'_>) -> Result<Record, MessageFaul
     Ok(Record::Accepted(slot, acceptance))
 }
 
+#[tactic(auto, using(crate::proofs::Steps::steps))]
+fn promised_from_of(fields: &Fields<'_>) -> Result<Record, MessageFault>
+    ensures { Gives KeepsUpload result (promised_from_at (record_parts_in fields.now)) }
+{
+    let first = slot_at(fields.number(SLOT))?;
+    let ballot = ballot_at(fields.number(ROUND), fields.number(NODE))?;
+    Ok(Record::PromisedFrom(first, ballot))
+}
+
 #[tactic(auto, unfolding(crate::specs::RecordReading::kept_at))]
 fn kept_of(alloc: Global, kind: u64, fields: &Fields<'_>) -> Result<Record, MessageFault>
     ensures { Gives KeepsUpload result (kept_at kind (record_parts_in fields.now)) }
@@ -53,6 +64,7 @@ fn kept_of(alloc: Global, kind: u64, fields: &Fields<'_>) -> Result<Record, Mess
         BEGAN => began_of(fields),
         PROMISED => promised_of(fields),
         ACCEPTED => accepted_of(alloc, fields),
+        PROMISED_FROM => promised_from_of(fields),
         _ => Err(MessageFault::BadKind),
     }
 }

@@ -7,7 +7,9 @@ ghost use Rattle.ballots.specs.Limits.{max_record_bytes};
 ghost use Rattle.ballots.specs.Record.{canonical_record, IsRecordInRange, IsRecordText};
 
 use crate::record::Record;
-use crate::record::numbers::{ACCEPTED, BEGAN, KIND, NODE, PROMISED, ROUND, SLOT, VALUE};
+use crate::record::numbers::{
+    ACCEPTED, BEGAN, KIND, NODE, PROMISED, PROMISED_FROM, ROUND, SLOT, VALUE,
+};
 use crate::value::OutOfMemory;
 use crate::writing::{append_pair, or_undone, pair};
 use proto_fields::{write_nonempty_bytes, write_nonzero_varint};
@@ -51,6 +53,9 @@ impl Record {
                 pair(acceptance.ballot),
                 acceptance.value.as_bytes(),
             ),
+            Record::PromisedFrom(first, ballot) => {
+                append_record_fields(out, PROMISED_FROM, first.number(), pair(*ballot), &[])
+            }
         }
     }
 

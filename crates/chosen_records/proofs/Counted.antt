@@ -9,7 +9,7 @@ use Rattle.ballots.specs.declared.value.Value.{Value}
 use Rattle.ballots.specs.declared.record.Record.{Record}
 use Rattle.ballots.specs.declared.record.Record.TheVariants.{Accepted}
 use Rattle.ballots.proofs.CallerLemmas.{same_ballot_is}
-use Rattle.chosen_records.specs.declared.tally.Place.{Place}
+use Rattle.chosen_records.specs.declared.tally.SlotBallot.{SlotBallot}
 use Rattle.chosen_records.specs.declared.tally.Tally.{Tally}
 use Rattle.chosen_records.specs.declared.fault.ChosenFault.{ChosenFault}
 use Rattle.chosen_records.specs.declared.fault.ChosenFault.TheVariants as fault
@@ -19,13 +19,13 @@ use Rattle.chosen_records.proofs.Recording.{one_more}
 
 -- ---- places
 
-same_places : (a b : Place) → a.slot ≡ b.slot → a.ballot ≡ b.ballot → a ≡ b
+same_places : (a b : SlotBallot) → a.slot ≡ b.slot → a.ballot ≡ b.ballot → a ≡ b
 same_places a b e f =
-    ap (λ (s : ℕ). let x : Place = record { slot = s; ballot = a.ballot } in x) e
-    ∙ ap (λ (k : Ballot). let x : Place = record { slot = b.slot; ballot = k } in x) f
+    ap (λ (s : ℕ). let x : SlotBallot = record { slot = s; ballot = a.ballot } in x) e
+    ∙ ap (λ (k : Ballot). let x : SlotBallot = record { slot = b.slot; ballot = k } in x) f
 
 -- the test passes of one place alone
-pub one_place : (a b : Place) → is_same_place a b ≡ true → a ≡ b
+pub one_place : (a b : SlotBallot) → is_same_place a b ≡ true → a ≡ b
 one_place a b e =
     let parts = both (a.slot == b.slot) (is_same_ballot a.ballot b.ballot) e in
     same_places a b (eqb-true a.slot b.slot parts.0) ((same_ballot_is a.ballot b.ballot).0 parts.1)
@@ -88,8 +88,8 @@ first_node new none node value same empty now = record {
     back other held (inr is) = (holds other ∙ eq-eqb node other is.0, same ∙ is.1)
 
 -- the tallies after that
-pub node_counted : (old new : Tallies) (node : ℕ) (place : Place) (value : Value) (was now : Option Tally) → tally_at old place ≡ was → tally_at new place ≡ now → AddsNode was now node value
-    → ((other : Place) → is_same_place place other ≡ false → tally_at new other ≡ tally_at old other) → CountsNode old new node place value
+pub node_counted : (old new : Tallies) (node : ℕ) (place : SlotBallot) (value : Value) (was now : Option Tally) → tally_at old place ≡ was → tally_at new place ≡ now → AddsNode was now node value
+    → ((other : SlotBallot) → is_same_place place other ≡ false → tally_at new other ≡ tally_at old other) → CountsNode old new node place value
 node_counted old new node place value was now before after adds others = record {
   here = subst (λ (t : Option Tally). AddsNode t (tally_at new place) node value) (sym before) (subst (λ (t : Option Tally). AddsNode was t node value) (sym after) adds);
   others = others;
@@ -107,7 +107,7 @@ nothing_counted tallies empty = record {
   each = λ place. subst HasNode (sym (none place)) tt;
 }
   where
-    none : (place : Place) → tally_at tallies place ≡ None
+    none : (place : SlotBallot) → tally_at tallies place ≡ None
     none place = ap (lookup (is_same_place place)) empty
 
 -- records that are the same leave the tallies as they are
@@ -122,7 +122,7 @@ counted_still some all tallies same is = record {
 }
 
 -- tallies with the same look-ups
-pub counted_alike : (all : List (List Record)) (old new : Tallies) → ((place : Place) → tally_at new place ≡ tally_at old place) → IsTallyOf all old → IsTallyOf all new
+pub counted_alike : (all : List (List Record)) (old new : Tallies) → ((place : SlotBallot) → tally_at new place ≡ tally_at old place) → IsTallyOf all old → IsTallyOf all new
 counted_alike all old new same is = record {
   counts = λ node slot ballot value.
       let was = is.counts node slot ballot value in
@@ -141,7 +141,7 @@ counted_over done own told tallies not = counted_still _ _ tallies same
         (λ has. elim (more.0 has) [ inl old ↦ old | inr is ↦ absurd (not slot accepted is.1) ], λ has. more.1 (inl has))
 
 module _ (done : List (List Record)) (own : List Record) (slot : ℕ) (accepted : Acceptance) (node : ℕ) (old new : Tallies) (last : length done ≡ node) (is : IsTallyOf (done ++ own ∷ []) old) where
-  abbrev here : Place
+  abbrev here : SlotBallot
   here = place_of slot accepted.ballot
 
   abbrev told : Record
@@ -179,7 +179,7 @@ module _ (done : List (List Record)) (own : List Record) (slot : ℕ) (accepted 
           | inr now ↦ inr (last ∙ now.0, told_is now.1)
         ])
 
-    elsewhere : (place : Place) → is_same_place here place ≡ false → (other : ℕ) (value : Value)
+    elsewhere : (place : SlotBallot) → is_same_place here place ≡ false → (other : ℕ) (value : Value)
         → (Records all other place.slot (acceptance place.ballot value) ↔ IsCounted (tally_at new place) other value)
     elsewhere place apart other value =
         subst (λ (t : Option Tally). Records all other place.slot (acceptance place.ballot value) ↔ IsCounted t other value) (sym (counts.others place apart)) (there, back)
@@ -207,14 +207,14 @@ module _ (done : List (List Record)) (own : List Record) (slot : ℕ) (accepted 
         back : IsCounted (tally_at old place) other value → Records all other place.slot (acceptance place.ballot value)
         back counted = more.1 (inl ((is.counts other place.slot place.ballot value).1 counted))
 
-    by_place : (place : Place) (t : Bool) → is_same_place here place ≡ t → (other : ℕ) (value : Value)
+    by_place : (place : SlotBallot) (t : Bool) → is_same_place here place ≡ t → (other : ℕ) (value : Value)
         → (Records all other place.slot (acceptance place.ballot value) ↔ IsCounted (tally_at new place) other value)
     by_place place true e other value =
-        subst (λ (p : Place). Records all other p.slot (acceptance p.ballot value) ↔ IsCounted (tally_at new p) other value) (one_place here place e) (at_here other value)
+        subst (λ (p : SlotBallot). Records all other p.slot (acceptance p.ballot value) ↔ IsCounted (tally_at new p) other value) (one_place here place e) (at_here other value)
     by_place place false e other value = elsewhere place e other value
 
-    each_by_place : (place : Place) (t : Bool) → is_same_place here place ≡ t → HasNode (tally_at new place)
-    each_by_place place true e = subst (λ (p : Place). HasNode (tally_at new p)) (one_place here place e) counts.here.each
+    each_by_place : (place : SlotBallot) (t : Bool) → is_same_place here place ≡ t → HasNode (tally_at new place)
+    each_by_place place true e = subst (λ (p : SlotBallot). HasNode (tally_at new p)) (one_place here place e) counts.here.each
     each_by_place place false e = subst HasNode (sym (counts.others place e)) (is.each place)
 
     pub counted_more : IsTallyOf all new

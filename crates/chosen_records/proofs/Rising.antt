@@ -15,7 +15,7 @@ use Rattle.std.proofs.lemmas.Option.{get_or_from_slice_get, slice_get-map, slice
 use Rattle.indexmap.specs.IndexMap.{keys}
 use Rattle.ballots.specs.Ballot.{ballot_cmp}
 use Rattle.ballots.specs.declared.message.Message.{Message}
-use Rattle.chosen_records.specs.declared.tally.Place.{Place}
+use Rattle.chosen_records.specs.declared.tally.SlotBallot.{SlotBallot}
 use Rattle.chosen_records.specs.declared.tally.Tally.{Tally}
 use Rattle.chosen_records.specs.Tallies.{Tallies, RisesUpTo, SlotsRise, told_below}
 use Rattle.chosen_records.proofs.Told.{below_there}
@@ -31,7 +31,7 @@ not_below a b rest e =
     first false same e = refl
     first true same e = absurd (let no : true ≡ false = e in cc)
 
-pub slots_rise : (places : List Place) → IsSorted (λ (a b : Place). ordering_then (nat_cmp a.slot b.slot) (ballot_cmp a.ballot b.ballot)) places
+pub slots_rise : (places : List SlotBallot) → IsSorted (λ (a b : SlotBallot). ordering_then (nat_cmp a.slot b.slot) (ballot_cmp a.ballot b.ballot)) places
     → IsNonDecreasingBy (λ place. place.slot) places
 slots_rise places sorted =
     IsNonDecreasingBy-from_all_adjacent (λ place. place.slot) places
@@ -75,7 +75,7 @@ rises_over tallies index told is = record {
       (it.0, it.1, omega (arith, it.2), it.3, it.4);
 }
 
-module _ (members : ℕ) (tallies : Tallies) (index : ℕ) (told : List Message) (rise : SlotsRise tallies) (is : RisesUpTo tallies index told) (place : Place) (tally : Tally)
+module _ (members : ℕ) (tallies : Tallies) (index : ℕ) (told : List Message) (rise : SlotsRise tallies) (is : RisesUpTo tallies index told) (place : SlotBallot) (tally : Tally)
     (here : slice_get tallies.entries index ≡ Some (place, tally)) where
   key_here : slice_get (keys tallies) index ≡ Some place
   key_here = slice_get-map (λ e. e.0) tallies.entries index ∙ ap (option_map (λ e. e.0)) here
@@ -84,8 +84,8 @@ module _ (members : ℕ) (tallies : Tallies) (index : ℕ) (told : List Message)
   older m has =
       let it = is.below m has in
       let up = rise it.0 index it.1 (omega (arith, it.2)) (slice_get_within (keys tallies) index place key_here) in
-      let one = ap (λ (p : Place). p.slot) (get_or_from_slice_get (keys tallies) it.0 it.1 it.1 it.3) in
-      let other = ap (λ (p : Place). p.slot) (get_or_from_slice_get (keys tallies) index place it.1 key_here) in
+      let one = ap (λ (p : SlotBallot). p.slot) (get_or_from_slice_get (keys tallies) it.0 it.1 it.1 it.3) in
+      let other = ap (λ (p : SlotBallot). p.slot) (get_or_from_slice_get (keys tallies) index place it.1 key_here) in
       omega (arith, up, one, other, it.4)
 
   newer : (m : Message) → Contains (told_below members place tally) m → m.slot ≡ place.slot

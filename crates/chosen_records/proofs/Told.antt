@@ -13,7 +13,7 @@ use Rattle.ballots.specs.declared.value.Value.{Value}
 use Rattle.ballots.specs.declared.record.Record.{Record}
 use Rattle.ballots.specs.declared.message.Message.{Message}
 use Rattle.ballots.proofs.CallerLemmas.{tally_more, tally_none, tally_same}
-use Rattle.chosen_records.specs.declared.tally.Place.{Place}
+use Rattle.chosen_records.specs.declared.tally.SlotBallot.{SlotBallot}
 use Rattle.chosen_records.specs.declared.tally.Tally.{Tally}
 use Rattle.chosen_records.specs.Chosen.{IsChosenAt, IsRecorded, IsToldChosen, TellsChosen, told_of}
 use Rattle.chosen_records.specs.Tallies.{Tallies, place_of, is_same_place, tally_at, IsCounted, HasMajority, IsTallyOf, IsToldOf, TellsUpTo, told_below, told_by}
@@ -33,7 +33,7 @@ one_back : (b : Bool) (x : Message) → IsTrue b → Contains (cond b (x ∷ [])
 one_back true x is = Contains-push [] x
 one_back false x is = absurd (let no : false ≡ true = is in cc)
 
-module _ (place : Place) (tally : Tally) where
+module _ (place : SlotBallot) (tally : Tally) where
   abbrev told_here : ℕ → Message
   told_here node = told_of node place.slot (acceptance place.ballot tally.value)
 
@@ -73,16 +73,16 @@ told_still members told more slot is = (
   },
 )
 
-module _ (members : ℕ) (tallies : Tallies) (index : ℕ) (told : List Message) (is : TellsUpTo members tallies index told) (place : Place) (tally : Tally)
+module _ (members : ℕ) (tallies : Tallies) (index : ℕ) (told : List Message) (is : TellsUpTo members tallies index told) (place : SlotBallot) (tally : Tally)
     (here : slice_get tallies.entries index ≡ Some (place, tally)) where
   abbrev Chosen : List Message → ℕ → Type 0
-  Chosen now i = (p : Place) (t : Tally) → slice_get tallies.entries i ≡ Some (p, t) → IsMajority members (members_in members t.nodes) → IsToldChosen members now p.slot
+  Chosen now i = (p : SlotBallot) (t : Tally) → slice_get tallies.entries i ≡ Some (p, t) → IsMajority members (members_in members t.nodes) → IsToldChosen members now p.slot
 
   -- what is told of a slot at this place, where its tally is a majority
   chosen_here : (now : List Message) → (IsMajority members (members_in members tally.nodes) → IsToldChosen members now place.slot) → Chosen now index
   chosen_here now is_told p t there majority =
       let same = some_pair_parts place p tally t (sym here ∙ there) in
-      subst (λ (q : Place). IsToldChosen members now q.slot) same.0
+      subst (λ (q : SlotBallot). IsToldChosen members now q.slot) same.0
       (is_told (subst (λ (u : Tally). IsMajority members (members_in members u.nodes)) (sym same.1) majority))
 
   chosen_next : (now : List Message) → ((i : ℕ) → i < index → Chosen now i) → Chosen now index → (i : ℕ) → i < index + 1 → Chosen now i
@@ -192,7 +192,7 @@ module _ (members : ℕ) (tallies : Tallies) (told : List Message) (is : TellsUp
       let more : tally_of members is_in ≤ members_in members tally.nodes = tally_more members is_in (contains tally.nodes) (λ node lt in'. (each node lt in').1.0) in
       let at = place_from_lookup (is_same_place (place_of slot ballot)) tallies.entries tally e in
       let same : place_of slot ballot ≡ at.1 = one_place (place_of slot ballot) at.1 at.3 in
-      let found : slice_get tallies.entries at.0 ≡ Some (place_of slot ballot, tally) = subst (λ (p : Place). slice_get tallies.entries at.0 ≡ Some (p, tally)) (sym same) at.2 in
+      let found : slice_get tallies.entries at.0 ≡ Some (place_of slot ballot, tally) = subst (λ (p : SlotBallot). slice_get tallies.entries at.0 ≡ Some (p, tally)) (sym same) at.2 in
       is.chosen at.0 (place_of slot ballot) tally (slice_get_within tallies.entries at.0 _ found) found (omega (arith, majority, more))
 
   pub chosen_all : (slot : ℕ) (ballot : Ballot) (value : Value) → IsChosenAt members all slot ballot value → IsToldChosen members told slot

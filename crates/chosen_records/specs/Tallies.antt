@@ -12,7 +12,7 @@ use Rattle.ballots.specs.Acceptance.{acceptance}
 use Rattle.ballots.specs.declared.value.Value.{Value}
 use Rattle.ballots.specs.declared.record.Record.{Record}
 use Rattle.ballots.specs.declared.message.Message.{Message}
-use Rattle.chosen_records.specs.declared.tally.Place.{Place}
+use Rattle.chosen_records.specs.declared.tally.SlotBallot.{SlotBallot}
 use Rattle.chosen_records.specs.declared.tally.Tally.{Tally}
 use Rattle.chosen_records.specs.declared.fault.ChosenFault.{ChosenFault}
 use Rattle.chosen_records.specs.declared.fault.ChosenFault.TheVariants as fault
@@ -22,17 +22,17 @@ abbrev pub Hashing : Type 0
 Hashing = BuildHasherDefault FoldHasher
 
 abbrev pub Tallies : Type 0
-Tallies = IndexMap Place Tally Hashing
+Tallies = IndexMap SlotBallot Tally Hashing
 
-abbrev pub place_of : ℕ → Ballot → Place
+abbrev pub place_of : ℕ → Ballot → SlotBallot
 place_of slot ballot = record { slot = slot; ballot = ballot }
 
 -- whether they are one ballot of one slot
-abbrev pub is_same_place : Place → Place → Bool
+abbrev pub is_same_place : SlotBallot → SlotBallot → Bool
 is_same_place a b = a.slot == b.slot && is_same_ballot a.ballot b.ballot
 
 -- what is counted at the place
-abbrev pub tally_at : Tallies → Place → Option Tally
+abbrev pub tally_at : Tallies → SlotBallot → Option Tally
 tally_at tallies place = get is_same_place tallies place
 
 -- the node is counted, with this value
@@ -55,7 +55,7 @@ pub record IsTallyOf (all : List (List Record)) (tallies : Tallies) : Type 0 whe
   pub counts : (node slot : ℕ) (ballot : Ballot) (value : Value)
       → Records all node slot (acceptance ballot value)
       ↔ IsCounted (tally_at tallies (place_of slot ballot)) node value
-  pub each : (place : Place) → HasNode (tally_at tallies place)
+  pub each : (place : SlotBallot) → HasNode (tally_at tallies place)
 
 -- the node is counted with this value beside those that were
 pub record AddsNode (old new : Option Tally) (node : ℕ) (value : Value) : Type 0 where
@@ -64,9 +64,9 @@ pub record AddsNode (old new : Option Tally) (node : ℕ) (value : Value) : Type
   pub each : HasNode new
 
 -- so it is at the place, and every other place is as before
-pub record CountsNode (old new : Tallies) (node : ℕ) (place : Place) (value : Value) : Type 0 where
+pub record CountsNode (old new : Tallies) (node : ℕ) (place : SlotBallot) (value : Value) : Type 0 where
   pub here : AddsNode (tally_at old place) (tally_at new place) node value
-  pub others : (other : Place) → is_same_place place other ≡ false → tally_at new other ≡ tally_at old other
+  pub others : (other : SlotBallot) → is_same_place place other ≡ false → tally_at new other ≡ tally_at old other
 
 -- the slot is told where a tally stands with another value
 abbrev pub TellsOther : Option Tally → ℕ → Value → ChosenFault → Type 0
@@ -74,12 +74,12 @@ TellsOther tally slot value (fault.Differ told) = (told ≡ slot) × HasOther ta
 TellsOther tally slot value fault.OutOfMemory = Unit {0}
 
 -- what is told of the node: that it accepted, where it is counted
-abbrev pub told_by : ℕ → Place → Tally → List Message
+abbrev pub told_by : ℕ → SlotBallot → Tally → List Message
 told_by node place tally =
     if contains tally.nodes node then told_of node place.slot (acceptance place.ballot tally.value) ∷ [] else []
 
 -- what is told of the nodes below this number
-abbrev pub told_below : ℕ → Place → Tally → List Message
+abbrev pub told_below : ℕ → SlotBallot → Tally → List Message
 told_below zero place tally = []
 told_below (suc node) place tally = told_below node place tally ++ told_by node place tally
 
@@ -100,7 +100,7 @@ IsToldOf members tallies m =
 pub record TellsUpTo (members : ℕ) (tallies : Tallies) (end : ℕ) (told : List Message) : Type 0 where
   pub counted : (m : Message) → Contains told m → IsToldOf members tallies m
   pub whole : (m : Message) → Contains told m → IsToldChosen members told m.slot
-  pub chosen : (index : ℕ) (place : Place) (tally : Tally) → index < end
+  pub chosen : (index : ℕ) (place : SlotBallot) (tally : Tally) → index < end
       → slice_get tallies.entries index ≡ Some (place, tally)
       → IsMajority members (members_in members tally.nodes) → IsToldChosen members told place.slot
 
@@ -112,5 +112,5 @@ SlotsRise tallies = IsNonDecreasingBy (λ place. place.slot) (keys tallies)
 pub record RisesUpTo (tallies : Tallies) (end : ℕ) (told : List Message) : Type 0 where
   pub rising : IsNonDecreasingBy (λ m. m.slot) told
   pub below : (m : Message) → Contains told m
-      → (index : ℕ) × (place : Place) × (index < end) × (slice_get (keys tallies) index ≡ Some place)
+      → (index : ℕ) × (place : SlotBallot) × (index < end) × (slice_get (keys tallies) index ≡ Some place)
       × (place.slot ≡ m.slot)

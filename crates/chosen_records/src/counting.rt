@@ -7,7 +7,7 @@ ghost use Rattle.chosen_records.specs.Chosen.{TellsDiffer};
 ghost use Rattle.chosen_records.specs.Tallies.{CountsNode, TellsOther, IsTallyOf, tally_at};
 
 use crate::fault::ChosenFault;
-use crate::tally::{Place, Tallies, Tally, add, copy_of};
+use crate::tally::{SlotBallot, Tallies, Tally, add, copy_of};
 use ballots::{Members, NodeId, NodeSet, OutOfMemory, Record, Value};
 use indexmap::IndexMap;
 use std::alloc::Global;
@@ -65,13 +65,13 @@ fn count_record(tallies: &mut Tallies, node: NodeId, told: &Record) -> Result<()
 {
     match told {
         Record::Accepted(slot, acceptance) => {
-            let place = Place {
+            let place = SlotBallot {
                 slot: *slot,
                 ballot: acceptance.ballot,
             };
             count(tallies, node, place, &acceptance.value)
         }
-        Record::Began(_) | Record::Promised(_, _) => Ok(()),
+        Record::Began(_) | Record::Promised(_, _) | Record::PromisedFrom(_, _) => Ok(()),
     }
 }
 
@@ -79,7 +79,7 @@ fn count_record(tallies: &mut Tallies, node: NodeId, told: &Record) -> Result<()
 fn count(
     tallies: &mut Tallies,
     node: NodeId,
-    place: Place,
+    place: SlotBallot,
     value: &Value,
 ) -> Result<(), ChosenFault>
     ensures counted { OnOk result (CountsNode tallies.old tallies.new node place value.now) }
@@ -93,7 +93,12 @@ fn count(
 }
 
 // Puts a tally of the node alone at the place, which has none.
-fn put(tallies: &mut Tallies, node: NodeId, place: Place, value: &Value) -> Result<(), OutOfMemory>
+fn put(
+    tallies: &mut Tallies,
+    node: NodeId,
+    place: SlotBallot,
+    value: &Value,
+) -> Result<(), OutOfMemory>
     requires { tally_at tallies.old place ≡ None }
     ensures { OnOk result (CountsNode tallies.old tallies.new node place value.now) }
 {

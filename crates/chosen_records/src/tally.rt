@@ -7,22 +7,22 @@ use crate::fault::ChosenFault;
 use ballots::{Ballot, NodeId, NodeSet, OutOfMemory, Slot, Value};
 use indexmap::IndexMap;
 
-/// A ballot of a slot. Places are ordered by slot, then by ballot.
+/// A ballot of a slot. They are ordered by slot, then by ballot.
 #[derive(Clone, Copy, Debug, PartialEq, Eq, PartialOrd, Ord, Hash)]
-pub(crate) struct Place {
+pub(crate) struct SlotBallot {
     pub(crate) slot: Slot,
     pub(crate) ballot: Ballot,
 }
 
-/// Who recorded an acceptance at a place, and its value.
+/// Who recorded an acceptance at a ballot of a slot, and its value.
 #[derive(Debug, Drop)]
 pub(crate) struct Tally {
     pub(crate) nodes: NodeSet,
     pub(crate) value: Value,
 }
 
-/// The tallies, by place.
-pub(crate) type Tallies = IndexMap<Place, Tally>;
+/// The tallies, by slot and ballot.
+pub(crate) type Tallies = IndexMap<SlotBallot, Tally>;
 
 /// Adds a node that recorded this value. Where the tally has another value, it stays as it is, and the slot is told.
 pub(crate) fn add(

@@ -11,7 +11,7 @@ ghost use Rattle.chosen_records.specs.Chosen.{IsChosenAt, IsRecorded, IsToldChos
 ghost use Rattle.chosen_records.specs.Tallies.{IsTallyOf, RisesUpTo, SlotsRise, TellsUpTo, told_below, told_by};
 
 use crate::counting::node_of;
-use crate::tally::{Place, Tallies, Tally, copy_of};
+use crate::tally::{SlotBallot, Tallies, Tally, copy_of};
 use ballots::{Acceptance, Body, Members, Message, NodeId, OutOfMemory, Slot};
 use std::alloc::Global;
 
@@ -74,7 +74,7 @@ fn ends_at(told: &[Message], slot: Slot) -> bool
 fn tell(
     told: &mut Vec<Message>,
     members: Members,
-    place: &Place,
+    place: &SlotBallot,
     tally: &Tally,
 ) -> Result<(), OutOfMemory>
     ensures { OnOk result (told.new.items ≡ told.old.items ++ told_below members place.now tally.now) }
@@ -89,7 +89,7 @@ fn tell(
 fn tell_node(
     told: &mut Vec<Message>,
     node: NodeId,
-    place: &Place,
+    place: &SlotBallot,
     tally: &Tally,
 ) -> Result<(), OutOfMemory>
     ensures { OnOk result (told.new.items ≡ told.old.items ++ told_by node place.now tally.now) }
@@ -101,7 +101,7 @@ fn tell_node(
 }
 
 // The message by which the node told that it accepted. It shares the value's bytes.
-fn message_of(node: NodeId, place: &Place, tally: &Tally) -> Result<Message, OutOfMemory>
+fn message_of(node: NodeId, place: &SlotBallot, tally: &Tally) -> Result<Message, OutOfMemory>
     ensures { IfOk result (λ message. message
         ≡ told_of node place.now.slot (acceptance place.now.ballot tally.now.value)) }
 {

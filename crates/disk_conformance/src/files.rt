@@ -1,6 +1,6 @@
 //! What files mean, beside a plain reader of them.
 
-use crate::support::{accepted, push_record, three_records};
+use crate::support::{accepted, four_records, push_record};
 use ballots::Record;
 use disk_records::read_records;
 use stable_records::StoreFault;
@@ -42,7 +42,7 @@ fn agrees(alloc: Global, file: &[u8]) -> bool {
 #[test]
 fn files_that_are_cut_off(rt: HostRuntime) -> Result<(), Fail> {
     let alloc = rt.alloc();
-    let file = three_records(alloc)?;
+    let file = four_records(alloc)?;
     let mut whole = 0u8;
     for count in 0..file.len() {
         let front = &file[..count];
@@ -51,14 +51,14 @@ fn files_that_are_cut_off(rt: HostRuntime) -> Result<(), Fail> {
     }
     // The file without a byte, and that of one.
     assert_eq!(rt; whole, 2);
-    assert!(rt; agrees(alloc, &file) && counted(alloc, &file) == Some(3));
+    assert!(rt; agrees(alloc, &file) && counted(alloc, &file) == Some(4));
     Ok(())
 }
 
 #[test]
 fn files_with_another_byte(rt: HostRuntime) -> Result<(), Fail> {
     let alloc = rt.alloc();
-    let file = three_records(alloc)?;
+    let file = four_records(alloc)?;
     for place in 0..file.len() {
         for byte in [0, 1, 2, 8, 0x18, 0x7f, 0x80, 0xff] {
             let mut other = file.clone()?;

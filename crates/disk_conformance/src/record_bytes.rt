@@ -14,6 +14,12 @@ const TWO: [u8; 19] = [
     1, 4, 0, 0, 0, 8, 1, 0x18, 1, 1, 4, 0, 0, 0, 8, 2, 0x18, 1, 0,
 ];
 
+/// The file once all slots from slot 5 on have promised (2, 0) too.
+const THREE: [u8; 30] = [
+    1, 4, 0, 0, 0, 8, 1, 0x18, 1, 1, 4, 0, 0, 0, 8, 2, 0x18, 1, 1, 6, 0, 0, 0, 8, 4, 0x10, 5, 0x18,
+    2, 0,
+];
+
 /// The calls of a recall of a file that is not new.
 const RECALL_CALLS: u64 = 3;
 
@@ -28,6 +34,14 @@ fn ballot() -> Result<Ballot, Fail> {
 fn promised() -> Result<Record, Fail> {
     let slot = Slot::new(0).ok_or("no slot")?;
     Ok(Record::Promised(slot, ballot()?))
+}
+
+/// The promise of (2, 0) by all slots from slot 5 on.
+fn promised_from() -> Result<Record, Fail> {
+    let first = Slot::new(5).ok_or("no slot")?;
+    let node = NodeId::new(0).ok_or("no node")?;
+    let ballot = Ballot::new(2, node).ok_or("no ballot")?;
+    Ok(Record::PromisedFrom(first, ballot))
 }
 
 /// A store over a file of these bytes, whose disk fails at the call behind so many.
@@ -62,6 +76,28 @@ fn each_keep_leaves_its_bytes(rt: HostRuntime) -> Result<(), Fail> {
     assert_eq!(rt; store.disk().bytes()?.as_slice(), ONE.as_slice());
     store.keep(&promised()?)?;
     assert_eq!(rt; store.disk().bytes()?.as_slice(), TWO.as_slice());
+    store.keep(&promised_from()?)?;
+    assert_eq!(rt; store.disk().bytes()?.as_slice(), THREE.as_slice());
+    Ok(())
+}
+
+#[test]
+fn a_promise_of_all_slots_is_read_back(rt: HostRuntime) -> Result<(), Fail> {
+    let alloc = rt.alloc();
+    let mut store = store_of(alloc, &THREE, None)?;
+    let found = store.recall(alloc)?;
+    let wanted = [Record::Began(ballot()?), promised()?, promised_from()?];
+    assert!(rt; found.as_slice() == wanted.as_slice());
+    Ok(())
+}
+
+#[test]
+fn a_record_of_no_kind_is_damage(rt: HostRuntime) -> Result<(), Fail> {
+    let alloc = rt.alloc();
+    let mut file = THREE;
+    file[24] = 5;
+    let mut store = store_of(alloc, &file, None)?;
+    assert!(rt; store.recall(alloc).err() == Some(StoreFault::Damaged));
     Ok(())
 }
 

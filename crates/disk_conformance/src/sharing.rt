@@ -55,6 +55,7 @@ fn without_uploads(alloc: Global) -> Result<Vec<Record>, Fail> {
     records.push(Record::Began(ballot))?;
     records.push(Record::Promised(slot, ballot))?;
     records.push(Record::Accepted(slot, Acceptance { ballot, value }))?;
+    records.push(Record::PromisedFrom(slot, ballot))?;
     Ok(records)
 }
 
@@ -74,7 +75,7 @@ fn is_shared(told: &Record) -> bool {
             Value::Upload(value) => !value.as_bytes().is_unique(),
             Value::Noop => false,
         },
-        Record::Began(_) | Record::Promised(_, _) => false,
+        Record::Began(_) | Record::Promised(_, _) | Record::PromisedFrom(_, _) => false,
     }
 }
 

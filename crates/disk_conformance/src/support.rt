@@ -30,12 +30,13 @@ pub fn push_record(alloc: Global, file: &mut Vec<u8>, kept: &Record) -> Result<(
     Ok(())
 }
 
-/// The file of a begun ballot, a promise and an upload that was accepted.
-pub fn three_records(alloc: Global) -> Result<Vec<u8>, Fail> {
+/// The file of a begun ballot, a promise, an upload that was accepted, and a promise of all slots from a first one on.
+pub fn four_records(alloc: Global) -> Result<Vec<u8>, Fail> {
     let mut file = [0].to_vec(alloc)?;
     push_record(alloc, &mut file, &Record::Began(ballot(3)?))?;
     let slot = Slot::new(300).ok_or("no slot")?;
     push_record(alloc, &mut file, &Record::Promised(slot, ballot(300)?))?;
     push_record(alloc, &mut file, &accepted(alloc, 5, 40)?)?;
+    push_record(alloc, &mut file, &Record::PromisedFrom(slot, ballot(301)?))?;
     Ok(file)
 }

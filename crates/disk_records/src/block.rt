@@ -43,7 +43,7 @@ pub fn block_of(alloc: Global, told: &Record) -> Result<Vec<u8>, OutOfMemory>
 fn room_for(told: &Record) -> usize {
     match told {
         Record::Accepted(_, acceptance) => HEAD_BYTES + acceptance.value.as_bytes().len(),
-        Record::Began(_) | Record::Promised(..) => HEAD_BYTES,
+        Record::Began(_) | Record::Promised(..) | Record::PromisedFrom(..) => HEAD_BYTES,
     }
 }
 

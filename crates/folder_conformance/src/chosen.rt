@@ -53,13 +53,14 @@ fn put<T: Drop>(list: &mut Vec<T>, item: T) -> Result<(), AllocError> {
     Ok(())
 }
 
-// The records of a node: a promise, and those of the row.
+// The records of a node: a promise, those of the row, and a promise of all slots from slot 1 on.
 fn node_records(alloc: Global, row: &[[u8; 4]]) -> Result<Vec<Record>, Fail> {
     let mut records = Vec::new(alloc);
     put(&mut records, Record::Promised(slot(0)?, ballot(1, 0)?))?;
     for place in 0..row.len() {
         put(&mut records, accepted(alloc, row[place])?)?;
     }
+    put(&mut records, Record::PromisedFrom(slot(1)?, ballot(3, 2)?))?;
     Ok(records)
 }
 
@@ -130,6 +131,7 @@ fn tells(
     }
 }
 
+// Of promises alone, also of all slots from slot 1 on, nothing is told.
 #[test]
 fn nothing_is_told_of_nothing(rt: HostRuntime) -> Result<(), Fail> {
     let told = tells(rt.alloc(), &[], &[], &[], &[])?;

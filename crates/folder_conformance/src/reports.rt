@@ -60,7 +60,7 @@ fn accepted(alloc: Global, row: [u8; 4]) -> Option<Record> {
     Some(Record::Accepted(slot, Acceptance { ballot, value }))
 }
 
-// The records of a node: a promise for a slot of its own, and those of the row.
+// The records of a node: a promise for a slot of its own, those of the row, and a promise of all slots from slot 1 on.
 fn node_records(alloc: Global, row: &[[u8; 4]]) -> Option<Vec<Record>> {
     let mut records = Vec::new(alloc);
     let promised = Record::Promised(Slot::new(9)?, ballot(1, 0)?);
@@ -68,6 +68,8 @@ fn node_records(alloc: Global, row: &[[u8; 4]]) -> Option<Vec<Record>> {
     for place in 0..row.len() {
         records.push(accepted(alloc, row[place])?).ok()?;
     }
+    let promised = Record::PromisedFrom(Slot::new(1)?, ballot(3, 2)?);
+    records.push(promised).ok()?;
     Some(records)
 }
 
@@ -118,6 +120,7 @@ fn tells(
     }
 }
 
+// Of promises alone, also of all slots from slot 1 on, there is none.
 #[test]
 fn nothing_is_served_of_nothing(rt: HostRuntime) {
     assert!(rt; tells(&rt, &[], &[], &[], "slots 0\n"));

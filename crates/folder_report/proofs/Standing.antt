@@ -9,7 +9,7 @@ use Rattle.ballots.specs.Acceptance.{acceptance}
 use Rattle.ballots.specs.declared.acceptance.Acceptance.{Acceptance}
 use Rattle.ballots.specs.declared.message.Message.{Message}
 use Rattle.ballots.specs.declared.record.Record.{Record}
-use Rattle.ballots.specs.declared.record.Record.TheVariants.{Accepted, Began, Promised}
+use Rattle.ballots.specs.declared.record.Record.TheVariants.{Accepted, Began, Promised, PromisedFrom}
 use Rattle.ballots.specs.declared.value.Value.{Value}
 use Rattle.ballots.proofs.CallerLemmas.{majorities_meet}
 use Rattle.chosen_records.specs.Chosen.{IsChosenAt, IsRecorded, IsToldChosen, Records, TellsChosen, told_of}
@@ -28,6 +28,7 @@ is_acceptance : (slot : ℕ) (kept : Record) → accepts slot kept ≡ true → 
 is_acceptance slot (Accepted other accepted) e = (accepted, ap (λ (s : ℕ). Accepted s accepted) (eqb-true other slot e))
 is_acceptance slot (Began ballot) e = absurd (let no : false ≡ true = e in cc)
 is_acceptance slot (Promised other ballot) e = absurd (let no : false ≡ true = e in cc)
+is_acceptance slot (PromisedFrom first ballot) e = absurd (let no : false ≡ true = e in cc)
 
 one_there : (slot : ℕ) (own : List Record) → accept slot own ≡ true → (accepted : Acceptance) × Contains own (Accepted slot accepted)
 one_there slot own e =

@@ -5,7 +5,7 @@ use Rattle.std.specs.List.{Contains, list_any}
 use Rattle.std.specs.List.Sorted.{IsStrictlyIncreasing}
 use Rattle.ballots.specs.declared.message.Message.{Message}
 use Rattle.ballots.specs.declared.record.Record.{Record}
-use Rattle.ballots.specs.declared.record.Record.TheVariants.{Accepted, Began, Promised}
+use Rattle.ballots.specs.declared.record.Record.TheVariants.{Accepted, Began, Promised, PromisedFrom}
 use Rattle.folder_report.specs.Values.{slots_limit}
 use Rattle.folder_report.specs.declared.report.SlotReport.{SlotReport}
 use Rattle.folder_report.specs.declared.report.SlotState.{SlotState}
@@ -27,6 +27,7 @@ abbrev pub accepts : ℕ → Record → Bool
 accepts slot (Accepted other acceptance) = other == slot
 accepts slot (Began ballot) = false
 accepts slot (Promised other ballot) = false
+accepts slot (PromisedFrom first ballot) = false
 
 -- whether one of these does
 abbrev pub accept : ℕ → List Record → Bool

@@ -66,7 +66,7 @@ fn mark_record(marks: &mut Marks, kept: &Record)
 {
     match kept {
         Record::Accepted(slot, _) => mark(marks, *slot, SlotState::Undecided),
-        Record::Began(_) | Record::Promised(_, _) => {}
+        Record::Began(_) | Record::Promised(_, _) | Record::PromisedFrom(_, _) => {}
     }
 }
 

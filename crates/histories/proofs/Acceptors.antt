@@ -6,7 +6,7 @@ use Rattle.ballots.specs.Ballot.{Ballot, IsBelow, IsAbove, IsAtLeast}
 use Rattle.ballots.specs.declared.value.Value.{Value}
 use Rattle.ballots.specs.declared.acceptance.Acceptance.{Acceptance}
 use Rattle.ballots.specs.declared.record.Record.{Record}
-use Rattle.ballots.specs.declared.record.Record.TheVariants.{Began, Promised, Accepted as HasAccepted}
+use Rattle.ballots.specs.declared.record.Record.TheVariants.{Began, Promised, Accepted as HasAccepted, PromisedFrom}
 use Rattle.ballots.specs.Acceptance.{acceptance}
 use Rattle.ballots.proofs.CallerLemmas.{not_below_itself, below_carried, below_above, not_below_more}
 use Rattle.acceptor.specs.Standing.{Standing}
@@ -32,6 +32,7 @@ promises_too : (slot : ℕ) (r : Record) (x : Acceptance) → acceptance_in slot
 promises_too slot (Began b) x gives = absurd (let no : None ≡ Some x = gives in cc)
 promises_too slot (Promised of b) x gives = absurd (let no : None ≡ Some x = gives in cc)
 promises_too slot (HasAccepted of y) x gives = promise_step x y (nat_eq slot of) gives
+promises_too slot (PromisedFrom first b) x gives = absurd (let no : None ≡ Some x = gives in cc)
 
 records_promise_too : (records : List Record) (slot : ℕ) (x : Acceptance) → RecordsAcceptance records slot x → RecordsPromise records slot x.ballot
 records_promise_too records slot x has =

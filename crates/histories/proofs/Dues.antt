@@ -221,7 +221,7 @@ module _ (laws : Laws) (config : AgreementConfig) (sent : List Message) (next me
   of_told call plan was (uploads, left, has_uploads, waiting, is) =
       subst Kept (sym is) (quiet (record { records = views.records; seen_round = views.seen_round; waiting = left; proposer_calls = views.proposer_calls; learner_calls = views.learner_calls ++ call ∷ [] }) refl (heard_too call was))
 
-  -- ---- a question
+  -- ---- an Ask
 
   proposed_before : (s a : ℕ) (b : Ballot) (v : Value) → WasSaid s (say.Accepted a b v) → WasSaid s (say.Accept b v)
   proposed_before s a b v was = accepted_was_proposed config.members (sayings sent s) next (lawful s) a b v was

@@ -190,7 +190,7 @@ module _ (ticks : TicksKeep) (parts : PartsKeep) (config : AgreementConfig) (las
     restart_piece node (inr (is, same)) =
         record { due = None; at_cut = refl; ends = goes_down views given sends are after ends None (results.Refused results.OutOfMemory) is refl same }
 
-    -- a question leaves the node as it was
+    -- a query leaves the node as it was
     asked_ends : (other : EventResult) → given ≡ other → sends_in sent other ≡ [] → after ≡ IsUp views → EndsHere views given sends are after ends None
     asked_ends other is none same = stays views given sends are after ends views other is none same refl
 

@@ -6,7 +6,7 @@ use Rattle.ballots.specs.Ballot.{Ballot}
 use Rattle.ballots.specs.declared.value.Value.{Value}
 use Rattle.ballots.specs.declared.acceptance.Acceptance.{Acceptance}
 use Rattle.ballots.specs.declared.record.Record.{Record}
-use Rattle.ballots.specs.declared.record.Record.TheVariants.{Began, Promised, Accepted as HasAccepted}
+use Rattle.ballots.specs.declared.record.Record.TheVariants.{Began, Promised, Accepted as HasAccepted, PromisedFrom}
 use Rattle.ballots.specs.declared.message.Message.{Message}
 use Rattle.ballots.specs.Acceptance.{acceptance}
 use Rattle.acceptor.specs.Restored.{promise_in, acceptance_in}
@@ -71,6 +71,7 @@ abbrev pub MayBeKept : (ℕ → Saying → Type 0) → Record → Type 0
 MayBeKept WasSaid (Began b) = Unit {0}
 MayBeKept WasSaid (Promised slot b) = Unit {0}
 MayBeKept WasSaid (HasAccepted slot x) = WasProposed WasSaid slot x
+MayBeKept WasSaid (PromisedFrom first b) = Unit {0}
 
 abbrev pub MayBeDue : (ℕ → Saying → Type 0) → Option Record → Type 0
 MayBeDue WasSaid None = Unit {0}
@@ -128,6 +129,7 @@ proposed_more : (WasSaid : ℕ → Saying → Type 0) (r : Record) (s : ℕ) (x 
 proposed_more WasSaid (Began b) s x may gives = absurd (let no : None ≡ Some x = gives in cc)
 proposed_more WasSaid (Promised slot b) s x may gives = absurd (let no : None ≡ Some x = gives in cc)
 proposed_more WasSaid (HasAccepted slot y) s x may gives = proposed_step WasSaid s slot x y (nat_eq s slot) refl may gives
+proposed_more WasSaid (PromisedFrom first b) s x may gives = absurd (let no : None ≡ Some x = gives in cc)
 
 pub one_record_more : (WasSaid : ℕ → Saying → Type 0) (me : ℕ) (records : List Record) (r : Record) → KnowsRecords WasSaid me records → MayBeKept WasSaid r
     → KnowsRecords WasSaid me (records ++ r ∷ [])

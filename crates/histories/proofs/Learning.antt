@@ -1,5 +1,5 @@
 -- What a node's learner is told in a step is what the step hands over: two nodes that were told alike and have the same step
--- are told alike then, and answer questions alike.
+-- are told alike then, and answer queries alike.
 use Rattle.std.proofs.Common.{◌≡◌, ℕ, inl, inr, Bool, true, false, if◌then◌else◌, List, [], ◌++◌, Option, Some, None, slice_get, refl, sym, ap, subst, ◌∙◌, arith}
 use Rattle.std.specs.List.{cons_option}
 use Rattle.std.proofs.lemmas.List.{append-nil}
@@ -233,7 +233,7 @@ module _ (config : AgreementConfig) (sent : List Message) (next : ℕ) (found : 
   alike_then (IsDown records due) (IsDown others other) e given new after changes alike one two =
       both_were_down (IsDown records due) (IsDown others other) e given new after alike one two
 
-  -- ---- questions
+  -- ---- queries
 
   same_question : (a b : Views) (Gives : List Upload → EventResult → Type 0) (given : EventResult) (after : UpOrDown) → a.learner_calls ≡ b.learner_calls → QueryGives config b Gives given after
       → QueryGives config a Gives given (IsUp a)

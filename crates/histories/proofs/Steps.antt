@@ -209,7 +209,7 @@ module _ (config : AgreementConfig) (sent : List Message) (next me : ℕ) where
         of_cut (input.Deliver m) given new (λ kept. message_may m kept (delivered number m lt is)) gives
     of_delivery_cut number given new (inr (late, is, same)) = stays given (results.Refused results.NotSent) new is refl same
 
-    -- a question
+    -- a query
     get_counts : (uploads : List Upload) (table : List ℕ) (version : ℕ) (given : EventResult) → GetGives uploads table version given → count_of given ≡ 0
     get_counts uploads table version given (inl (found, is, e)) = ap count_of e
     get_counts uploads table version given (inr (none, e)) = ap count_of e

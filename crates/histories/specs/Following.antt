@@ -117,7 +117,7 @@ InfoGivesIfAble uploads table given =
     InfoGives uploads table given
     ⊎ ((effective table uploads ≢ []) × (given ≡ results.Refused results.OutOfMemory))
 
--- a question is answered from the tables of the node's prefix, and changes nothing
+-- a query is answered from the tables of the node's prefix, and changes nothing
 abbrev pub QueryGives : AgreementConfig → Views → (List Upload → EventResult → Type 0) → EventResult → UpOrDown → Type 0
 QueryGives config views Gives given seat =
     (uploads : List Upload) × HasUploads config.members views.learner_calls uploads × Gives uploads given

@@ -4,7 +4,7 @@ use Rattle.std.specs.Prelude.{◌≡◌, ℕ, ◌<◌, List, Result, Ok, Err}
 use Rattle.std.specs.List.{AllByRecursion}
 use Rattle.ballots.specs.declared.value.Value.{Value}
 use Rattle.ballots.specs.declared.record.Record.{Record}
-use Rattle.ballots.specs.declared.record.Record.TheVariants.{Began, Promised, Accepted}
+use Rattle.ballots.specs.declared.record.Record.TheVariants.{Began, Promised, Accepted, PromisedFrom}
 use Rattle.agreement.specs.State.{AgreementState, Has}
 use Rattle.agreement.specs.declared.refusal.Refusal.{Refusal}
 use Rattle.agreement.specs.declared.refusal.Refusal.TheVariants.{OutOfRange, SlotsSpent, RoundsSpent, OutOfMemory}
@@ -39,6 +39,7 @@ abbrev pub IsRecordOf : AgreementConfig → Record → Type 0
 IsRecordOf config (Began ballot) = ballot.node < config.members
 IsRecordOf config (Promised slot ballot) = (slot < config.slot_limit) × (ballot.node < config.members)
 IsRecordOf config (Accepted slot acceptance) = (slot < config.slot_limit) × (acceptance.ballot.node < config.members)
+IsRecordOf config (PromisedFrom first ballot) = (first < config.slot_limit) × (ballot.node < config.members)
 
 -- the node is a member, and its records are of the configuration
 pub record CanStart (config : AgreementConfig) (me : ℕ) (records : List Record) : Type 0 where

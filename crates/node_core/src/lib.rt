@@ -28,7 +28,7 @@ mod opening;
 mod plan;
 mod planning;
 mod puts;
-mod questions;
+mod queries;
 mod reopening;
 mod slots;
 mod ticks;

@@ -25,6 +25,9 @@ fn is_record_of(config: AgreementConfig, kept: &Record) -> bool
         Record::Accepted(slot, acceptance) => {
             slot.number() < config.slot_limit() && members.have(acceptance.ballot.node())
         }
+        Record::PromisedFrom(first, ballot) => {
+            first.number() < config.slot_limit() && members.have(ballot.node())
+        }
     }
 }
 

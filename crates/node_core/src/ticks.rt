@@ -29,7 +29,7 @@ impl Node {
     }
 
     // Where uploads wait, an attempt for the first; else one at the first free slot, if something is learned behind it; and
-    // if not, a question.
+    // if not, an Ask.
     fn step_of_tick(&self, left: u8) -> Result<AgreementStep, Refusal>
         requires within { left ≤ most_left }
         ensures gives { TickGives self.now left result }
@@ -38,7 +38,7 @@ impl Node {
         match self.waiting.first() {
             Some(upload) => self.attempt_upload(upload, left),
             None if self.agreement.has_gap() => self.attempt_noop(),
-            None => Ok(self.agreement.plan_question()?),
+            None => Ok(self.agreement.plan_ask()?),
         }
     }
 }

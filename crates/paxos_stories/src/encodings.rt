@@ -127,17 +127,28 @@ fn show_record(alloc: Global, record: &Record, answer: &mut Response) -> Result<
             answer.word("began")?;
             shown::ballot(alloc, *ballot, answer)
         }
-        Record::Promised(slot, ballot) => {
-            answer.word("promised")?;
-            answer.number(u64::from(slot.number()))?;
-            shown::ballot(alloc, *ballot, answer)
-        }
+        Record::Promised(slot, ballot) => show_promise(alloc, "promised", *slot, *ballot, answer),
         Record::Accepted(slot, acceptance) => {
             answer.word("accepted")?;
             answer.number(u64::from(slot.number()))?;
             shown::acceptance(alloc, acceptance, answer)
         }
+        Record::PromisedFrom(first, ballot) => {
+            show_promise(alloc, "promised-from", *first, *ballot, answer)
+        }
     }
+}
+
+fn show_promise(
+    alloc: Global,
+    kind: &str,
+    slot: Slot,
+    ballot: Ballot,
+    answer: &mut Response,
+) -> Result<(), RequestFault> {
+    answer.word(kind)?;
+    answer.number(u64::from(slot.number()))?;
+    shown::ballot(alloc, ballot, answer)
 }
 
 // The encoding of the record of this kind with the slot, the ballot and the value of a Prepare or an Accept.
@@ -177,6 +188,7 @@ fn record_of_ballot(kind: &str, slot: Slot, ballot: Ballot) -> Result<Record, Re
     match kind {
         "keep-began" => Ok(Record::Began(ballot)),
         "keep-promised" => Ok(Record::Promised(slot, ballot)),
+        "keep-promised-from" => Ok(Record::PromisedFrom(slot, ballot)),
         _ => Err(RequestFault::BadRequest),
     }
 }

@@ -7,7 +7,7 @@ use Rattle.ballots.specs.declared.value.Value.{Value}
 use Rattle.ballots.specs.declared.value.Value.TheVariants.{Noop, Upload}
 use Rattle.ballots.specs.declared.acceptance.Acceptance.{Acceptance}
 use Rattle.ballots.specs.declared.record.Record.{Record}
-use Rattle.ballots.specs.declared.record.Record.TheVariants.{Began, Promised, Accepted}
+use Rattle.ballots.specs.declared.record.Record.TheVariants.{Began, Promised, Accepted, PromisedFrom}
 
 -- the round, a point and the node
 abbrev pub ballot_text : Ballot → List ℕ
@@ -29,6 +29,7 @@ abbrev pub record_text : Record → List ℕ
 record_text (Began ballot) = codes "began " ++ ballot_text ballot
 record_text (Promised slot ballot) = codes "promised slot " ++ (decimal slot ++ (codes " " ++ ballot_text ballot))
 record_text (Accepted slot acceptance) = codes "accepted slot " ++ (decimal slot ++ (codes " " ++ acceptance_text acceptance))
+record_text (PromisedFrom first ballot) = codes "promised from slot " ++ (decimal first ++ (codes " " ++ ballot_text ballot))
 
 -- the line of the record of this number
 abbrev pub line_of : ℕ → Record → List ℕ

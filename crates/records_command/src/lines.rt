@@ -61,6 +61,11 @@ fn record_text(alloc: Global, kept: &Record) -> Result<String, AllocError>
             let accepted = accepted_text(alloc, acceptance)?;
             format!(in alloc; "accepted slot {slot} {accepted}")
         }
+        Record::PromisedFrom(first, ballot) => {
+            let first = first.number();
+            let ballot = ballot_text(alloc, *ballot)?;
+            format!(in alloc; "promised from slot {first} {ballot}")
+        }
     }
 }
 

@@ -90,7 +90,7 @@ module _ (config : AgreementConfig) (sent : List Message) (next : ℕ) (given : 
   quiet : (other : EventResult) → given ≡ other → count_of other ≡ 0 → ⊥
   quiet other is none = absurd (omega (arith, some, ap count_of is, none))
 
-  -- what goes out are the next messages of the history, and no question was asked
+  -- what goes out are the next messages of the history, and no query was asked
   abbrev GoesOut : Event → Type 0
   GoesOut e = (is_query e ≡ false) × (given ≡ results.Sent next (count_of given))
 

@@ -3,7 +3,7 @@
 use Rattle.std.specs.Prelude.{◌≡◌, ℕ, ◌<◌, ◌≤◌, Bool, IsTrue, Some, List, [], ◌∷◌, ◌++◌, length, map, slice_get, slice_index_or}
 use Rattle.std.specs.List.{All}
 use Rattle.ballots.specs.declared.record.Record.{Record}
-use Rattle.ballots.specs.declared.record.Record.TheVariants.{Began, Promised, Accepted}
+use Rattle.ballots.specs.declared.record.Record.TheVariants.{Began, Promised, Accepted, PromisedFrom}
 use Rattle.ballots.specs.declared.message.Message.{Message}
 use Rattle.agreement_rules.specs.Views.{AgreementConfig, started_with}
 use Rattle.agreement_rules.specs.Due.{IsMessageOf}
@@ -56,6 +56,7 @@ abbrev pub IsOwn : ℕ → Record → Type 0
 IsOwn me (Began ballot) = ballot.node ≡ me
 IsOwn me (Promised slot ballot) = Unit {0}
 IsOwn me (Accepted slot acceptance) = Unit {0}
+IsOwn me (PromisedFrom first ballot) = Unit {0}
 
 abbrev pub AreOwn : ℕ → List Record → Type 0
 AreOwn me records = All (IsOwn me) records

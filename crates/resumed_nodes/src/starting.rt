@@ -75,6 +75,6 @@ fn is_own(me: NodeId, told: &Record) -> bool
 {
     match told {
         Record::Began(ballot) => ballot.node() == me,
-        Record::Promised(_, _) | Record::Accepted(_, _) => true,
+        Record::Promised(_, _) | Record::Accepted(_, _) | Record::PromisedFrom(_, _) => true,
     }
 }

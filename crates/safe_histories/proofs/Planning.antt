@@ -6,7 +6,7 @@ use Rattle.ballots.specs.Ballot.{Ballot, IsBelow}
 use Rattle.ballots.specs.declared.value.Value.{Value}
 use Rattle.ballots.specs.declared.acceptance.Acceptance.{Acceptance}
 use Rattle.ballots.specs.declared.record.Record.{Record}
-use Rattle.ballots.specs.declared.record.Record.TheVariants.{Began, Promised, Accepted as HasAccepted}
+use Rattle.ballots.specs.declared.record.Record.TheVariants.{Began, Promised, Accepted as HasAccepted, PromisedFrom}
 use Rattle.ballots.specs.declared.message.Message.{Message}
 use Rattle.ballots.specs.declared.message.Body.{Body}
 use Rattle.ballots.specs.declared.message.Body.TheVariants.{Prepare, Promise, Nack, Accept, Accepted, Ask, Decided}
@@ -69,6 +69,7 @@ module _ (T : List ℕ → Type 0) where
   acceptance_from slot (Began ballot) a from is = absurd (none_is_some a is)
   acceptance_from slot (Promised of ballot) a from is = absurd (none_is_some a is)
   acceptance_from slot (HasAccepted of accepted) a from is = accepted_in a accepted (nat_eq slot of) from is
+  acceptance_from slot (PromisedFrom first ballot) a from is = absurd (none_is_some a is)
 
   highest_from : (slot : ℕ) (records : List Record) (o : Option Acceptance) → Each (RecordFrom T) records → IsLastHighest (filter_map (acceptance_in slot) records) o
       → ReportFrom T o

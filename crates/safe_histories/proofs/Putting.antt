@@ -4,7 +4,7 @@ use Rattle.ballots.specs.declared.value.Value.{Value}
 use Rattle.ballots.specs.declared.value.Value.TheVariants.{Noop, Upload as UploadValue}
 use Rattle.ballots.specs.declared.acceptance.Acceptance.{Acceptance}
 use Rattle.ballots.specs.declared.record.Record.{Record}
-use Rattle.ballots.specs.declared.record.Record.TheVariants.{Began, Promised, Accepted as HasAccepted}
+use Rattle.ballots.specs.declared.record.Record.TheVariants.{Began, Promised, Accepted as HasAccepted, PromisedFrom}
 use Rattle.ballots.specs.declared.message.Message.{Message}
 use Rattle.ballots.specs.declared.message.Body.{Body}
 use Rattle.ballots.specs.declared.message.Body.TheVariants.{Prepare, Promise, Nack, Accept, Accepted, Ask, Decided}
@@ -67,6 +67,7 @@ module _ (T : List ℕ → Type 0) where
   RecordFrom (Began ballot) = Unit {0}
   RecordFrom (Promised slot ballot) = Unit {0}
   RecordFrom (HasAccepted slot acceptance) = ValueFrom acceptance.value
+  RecordFrom (PromisedFrom first ballot) = Unit {0}
 
   abbrev pub AskedFrom : Asked → Type 0
   AskedFrom (Begins begun) = ValueFrom begun.candidate
@@ -127,6 +128,7 @@ module _ (T U : List ℕ → Type 0) (more : (text : List ℕ) → T text → U 
   record_more (Began ballot) is = tt
   record_more (Promised slot ballot) is = tt
   record_more (HasAccepted slot acceptance) is = value_more acceptance.value is
+  record_more (PromisedFrom first ballot) is = tt
 
   asked_more : (call : Asked) → AskedFrom T call → AskedFrom U call
   asked_more (Begins begun) is = value_more begun.candidate is

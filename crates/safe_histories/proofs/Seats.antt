@@ -130,7 +130,7 @@ module _ (sent : List Message) (done : List Step) where
         with_it (event.DeliverCut node number) given (results.Refused results.NotSent) seat (IsUp views) gives stays
         (refused (event.DeliverCut node number) results.NotSent views refl (no_cut_is (node == node)) agrees)
 
-    -- a question changes nothing
+    -- a query changes nothing
     asked_agrees : (e : Event) (given : EventResult) (seat : UpOrDown) (Gives : List Upload → EventResult → Type 0) → brings_up (node_of e) (step_of e given) ≡ false
         → brings_down (node_of e) (step_of e given) ≡ false → delivered_in sent (node_of e) (step_of e given) ≡ None → Agrees sent done (node_of e) (IsUp views)
         → QueryGives config views Gives given seat → After e given seat

@@ -1,4 +1,4 @@
--- What is answered to questions comes from the tables of the asked node's prefix.
+-- What is answered to queries comes from the tables of the asked node's prefix.
 use Rattle.std.proofs.Common.{◌≡◌, ℕ, ◌<◌, inl, inr, Bool, true≢false, List, Some, sym, subst, ◌∙◌, arith}
 use Rattle.ballots.specs.declared.message.Message.{Message}
 use Rattle.lawful_histories.specs.Lawful.{IsLawful}

@@ -17,7 +17,7 @@ use Rattle.safe_histories.specs.Learning.{Runs, HasTables}
 abbrev pub IsStep : List Step → ℕ → Event → EventResult → Type 0
 IsStep steps place event given = slice_get steps place ≡ Some (record { event = event; result = given })
 
--- what is answered to a question by one who has such tables; of other events nothing is said
+-- what is answered to a query by one who has such tables; of other events nothing is said
 abbrev pub AnswersFrom : (List Upload → Type 0) → Event → EventResult → Type 0
 AnswersFrom HasThem (Put node text) given = Unit {0}
 AnswersFrom HasThem (Tick node left) given = Unit {0}
@@ -60,7 +60,7 @@ AcknowledgedStandsOnce steps =
     → number ≤ version → IsStep steps j (Get l upload.table version) (Answer y)
     → (1 ≤ number) × StandsIn upload.table y version number upload
 
--- A member that is up answers every question from the tables of its prefix, as the history before the question has it.
+-- A member that is up answers every query from the tables of its prefix, as the history before the query has it.
 -- Memory for an answer may be refused, where there is one; what has become of an upload is always told.
 abbrev pub ServesItsPrefix : History → Type 0
 ServesItsPrefix history =

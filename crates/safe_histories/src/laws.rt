@@ -139,7 +139,7 @@ pub fn shown_tables_are_one()
     decided_is_one();
 }
 
-/// Tables give one answer to each question.
+/// Tables give one answer to each query.
 pub fn answers_are_one()
     ensures get { (uploads : List Upload) (table : List ℕ) (version : ℕ) (a b : EventResult)
         → GetGives uploads table version a → GetGives uploads table version b → a ≡ b }
@@ -188,7 +188,7 @@ pub fn acknowledged_uploads_have_their_place()
     tables_have_one_shape();
 }
 
-/// A member that runs answers each question from the tables of its prefix: a ticket with the version that these have, or
+/// A member that runs answers each query from the tables of its prefix: a ticket with the version that these have, or
 /// that there is none; the latest version of a table by the number of its effective uploads; and always what has become
 /// of an upload. Memory may be refused for the first two alone, where there is an answer.
 pub fn running_members_answer()

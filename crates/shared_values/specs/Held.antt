@@ -5,7 +5,7 @@ use Rattle.std.specs.Option.{option_or}
 use Rattle.std.specs.Ordering.{nat_cmp}
 use Rattle.std.specs.BTreeMap.{get}
 use Rattle.ballots.specs.declared.record.Record.{Record}
-use Rattle.ballots.specs.declared.record.Record.TheVariants.{Began, Promised, Accepted}
+use Rattle.ballots.specs.declared.record.Record.TheVariants.{Began, Promised, Accepted, PromisedFrom}
 use Rattle.ballots.specs.declared.value.Value.{Value}
 use Rattle.ballots.specs.declared.value.Value.TheVariants.{Noop, Upload}
 use Rattle.shared_values.specs.declared.held.HeldValues.{HeldValues}
@@ -20,6 +20,7 @@ abbrev pub upload_at : Record → ℕ → Option (List ℕ)
 upload_at (Began ballot) slot = None
 upload_at (Promised promised ballot) slot = None
 upload_at (Accepted accepted acceptance) slot = if accepted == slot then upload_of acceptance.value else None
+upload_at (PromisedFrom first ballot) slot = None
 
 -- the last upload that the slot has accepted by these records
 abbrev pub last_upload : List Record → ℕ → Option (List ℕ)

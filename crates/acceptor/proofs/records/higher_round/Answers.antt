@@ -24,3 +24,7 @@ returns-in-Promised c records is =
 pub returns-in-Accepted : goal.returns-in-Accepted
 returns-in-Accepted c records is =
     subst (λ (r : Record). IsHighestRound (records ++ r ∷ []) c.args.highest) (sym c.in-Accepted.is) (other_round_more records _ c.args.highest refl is)
+
+pub returns-in-PromisedFrom : goal.returns-in-PromisedFrom
+returns-in-PromisedFrom c records is =
+    subst (λ (r : Record). IsHighestRound (records ++ r ∷ []) c.args.highest) (sym c.in-PromisedFrom.is) (other_round_more records _ c.args.highest refl is)

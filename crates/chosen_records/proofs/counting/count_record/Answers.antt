@@ -1,7 +1,7 @@
 use Rattle.std.proofs.Common.{◌≡◌, ℕ, ◌++◌, ◌∷◌, [], inl, inr, OnOk, IfErr, sym, subst, ◌∙◌}
 use Rattle.ballots.specs.declared.acceptance.Acceptance.{Acceptance}
 use Rattle.ballots.specs.declared.record.Record.{Record}
-use Rattle.ballots.specs.declared.record.Record.TheVariants.{Began, Promised, Accepted}
+use Rattle.ballots.specs.declared.record.Record.TheVariants.{Began, Promised, Accepted, PromisedFrom}
 use Rattle.chosen_records.specs.Chosen.{TellsDiffer}
 use Rattle.chosen_records.specs.Tallies.{IsTallyOf}
 use Rattle.chosen_records.proofs.Counted.{counted_more, counted_over, tells_differ, ok_then, err_then}
@@ -27,5 +27,6 @@ returns-in-Began-clause-counted c = λ done own last is. counted_over done own c
     not : (slot : ℕ) (accepted : Acceptance) → c.args.told.now ≡ Accepted slot accepted → ⊥
     not slot accepted e = elim c.in-Began.is [
       | inl began ↦ let no : Began began.0 ≡ Accepted slot accepted = sym began.1 ∙ e in cc
-      | inr promised ↦ let no : Promised promised.0 promised.1 ≡ Accepted slot accepted = sym promised.2 ∙ e in cc
+      | inr (inl promised) ↦ let no : Promised promised.0 promised.1 ≡ Accepted slot accepted = sym promised.2 ∙ e in cc
+      | inr (inr from) ↦ let no : PromisedFrom from.0 from.1 ≡ Accepted slot accepted = sym from.2 ∙ e in cc
     ]

@@ -6,5 +6,5 @@ use Rattle.acceptor.proofs.acceptor.Acceptor.highest_from.Goals as goal
 pub returns : goal.returns
 returns c =
     rw (← c.self.view_is, c.higher_of.ensures)
-    (highest_of_both (at c.self.inside.promises.entries) (ranged_at c.self.inside.ranges) c.args.first c.highest_promise_from.result c.highest.result c.highest_promise_from.ensures.highest
+    (highest_of_both (at c.self.inside.promises.entries) (ranged_at c.self.inside.ranges.ranges) c.args.first c.highest_promise_from.result c.highest.result c.highest_promise_from.ensures.highest
     (c.highest.ensures c.args.first c.highest_promise_from.ensures.within))

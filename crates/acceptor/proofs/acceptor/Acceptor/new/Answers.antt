@@ -10,7 +10,7 @@ use Rattle.acceptor.proofs.acceptor.Acceptor.new.Goals as goal
 pub returns-clause-fresh : goal.returns-clause-fresh
 returns-clause-fresh c = record {
   promises = λ slot.
-      ap (λ (l : List (ℕ × Ballot)). higher (at l slot) (ranged_at c.new-2.result slot)) c.new.ensures.empty ∙ ap (λ (l : List (ℕ × Ballot)). ranged_at l slot) c.new-2.ensures
+      ap (λ (l : List (ℕ × Ballot)). higher (at l slot) (ranged_at c.new-2.result.ranges slot)) c.new.ensures.empty ∙ ap (λ (l : List (ℕ × Ballot)). ranged_at l slot) c.new-2.ensures
       ∙ nothing_ranged slot;
   acceptances = λ slot. ap (λ (l : List (ℕ × Acceptance)). at l slot) c.new-3.ensures.empty;
 }

@@ -38,7 +38,7 @@ returns-in_err-reserve-clause-memory c = grind (arith, common_steps) steps 60000
 pub returns-clause-answered : goal.returns-clause-answered
 returns-clause-answered c =
     let own = at c.self.inside.promises.entries in
-    let ranged = ranged_at c.self.inside.ranges in
+    let ranged = ranged_at c.self.inside.ranges.ranges in
     let new = at c.put_promise.new.promises.entries in
     let above : IsAbove c.args.ballot (promised_at c.args.self.now c.args.slot) = subst (IsAbove c.args.ballot) c.promised.ensures (above_promised c) in
     let held = subst (λ (state : AcceptorState). IsAbove c.args.ballot (promised_at state c.args.slot)) (sym c.self.view_is) above in

@@ -15,7 +15,7 @@ returns-in_err-reserve-clause-err c = search rules steps 300000
 pub returns-clause-ok : goal.returns-clause-ok
 returns-clause-ok c =
     let own = at c.self.inside.promises.entries in
-    let ranged = ranged_at c.self.inside.ranges in
+    let ranged = ranged_at c.self.inside.ranges.ranges in
     let same = subst (λ (state : AcceptorState). IsSame (standing c.args.self.now) (standing state)) (sym c.self.view_is) c.reserve.ensures.same in
     let more = subst (IsAtLeast c.args.granted.ballot) (sym (same.promises c.args.slot)) c.requires in
     record {

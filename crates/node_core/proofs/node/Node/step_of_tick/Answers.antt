@@ -11,17 +11,17 @@ attempt_noop-requires-clause-gap c =
     subst RequiresGap c.self.view_is
     (gap_told (node_of c.self.inside.agreement c.self.inside.tables c.self.inside.waiting) c.has_gap.result c.has_gap.ensures c.if-has_gap.true)
 
-pub returns-in_err-plan_question-in-None-2-clause-gives : goal.returns-in_err-plan_question-in-None-2-clause-gives
-returns-in_err-plan_question-in-None-2-clause-gives c =
+pub returns-in_err-plan_ask-in-None-2-clause-gives : goal.returns-in_err-plan_ask-in-None-2-clause-gives
+returns-in_err-plan_ask-in-None-2-clause-gives c =
     let state = node_of c.self.inside.agreement c.self.inside.tables c.self.inside.waiting in
     subst (λ (s : NodeState). TickGives s c.args.left c.from_residual.result) c.self.view_is
     (subst (TickGives state c.args.left) (sym (handed_on c.from_residual.result OutOfMemory c.from_residual.ensures.1))
     (question_refused state c.args.left c.requires.within c.in-None-2.ensures.first
-    (no_gap_told state c.has_gap.result c.has_gap.ensures c.if-has_gap.false) c.in_err-plan_question-in-None-2.ensures.memory))
+    (no_gap_told state c.has_gap.result c.has_gap.ensures c.if-has_gap.false) c.in_err-plan_ask-in-None-2.ensures.memory))
 
-pub returns-in_ok-plan_question-in-None-2-clause-gives : goal.returns-in_ok-plan_question-in-None-2-clause-gives
-returns-in_ok-plan_question-in-None-2-clause-gives c =
+pub returns-in_ok-plan_ask-in-None-2-clause-gives : goal.returns-in_ok-plan_ask-in-None-2-clause-gives
+returns-in_ok-plan_ask-in-None-2-clause-gives c =
     let state = node_of c.self.inside.agreement c.self.inside.tables c.self.inside.waiting in
-    subst (λ (s : NodeState). TickGives s c.args.left (Ok c.in_ok-plan_question-in-None-2.field-0)) c.self.view_is
+    subst (λ (s : NodeState). TickGives s c.args.left (Ok c.in_ok-plan_ask-in-None-2.field-0)) c.self.view_is
     (question_due state c.args.left c.requires.within c.in-None-2.ensures.first
-    (no_gap_told state c.has_gap.result c.has_gap.ensures c.if-has_gap.false) c.in_ok-plan_question-in-None-2.field-0 c.in_ok-plan_question-in-None-2.ensures.gives)
+    (no_gap_told state c.has_gap.result c.has_gap.ensures c.if-has_gap.false) c.in_ok-plan_ask-in-None-2.field-0 c.in_ok-plan_ask-in-None-2.ensures.gives)

@@ -4,7 +4,7 @@ use Rattle.agreement.specs.State.{AgreementState}
 use Rattle.agreement.specs.Step.{Sends}
 use Rattle.agreement.proofs.Parts as parts
 use Rattle.agreement.proofs.Proposing as proposing
-use Rattle.agreement.proofs.agreement.Agreement.plan_question.Goals as goal
+use Rattle.agreement.proofs.agreement.Agreement.plan_ask.Goals as goal
 
 pub returns-in-Some-clause-gives : goal.returns-in-Some-clause-gives
 returns-in-Some-clause-gives c =

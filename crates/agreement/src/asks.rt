@@ -18,7 +18,7 @@ use ballots::{Body, Message, OutOfMemory, Slot};
 impl Agreement {
     /// Asks for what is decided from the first free slot on (section 2.3), or does nothing where every slot has learned a
     /// value. Memory can be refused only where there is such a slot.
-    pub fn plan_question(&self) -> Result<AgreementStep, OutOfMemory>
+    pub fn plan_ask(&self) -> Result<AgreementStep, OutOfMemory>
         ensures gives { IfOk result (AskGives self.now) }
         ensures grows { IfOk result (λ step. step.grown.items ≡ []) }
         ensures can { IfOk result (λ step. CanTake self.now step.change) }
@@ -36,11 +36,11 @@ impl Agreement {
         ensures { IfOk result (λ step.
             Sends step (message self.now.me slot body.Ask ∷ []) self.now.seen_round Nothing) }
     {
-        let question = Message {
+        let ask = Message {
             sender: self.me,
             slot,
             body: Body::Ask,
         };
-        sending(self.alloc, question, self.seen_round, Change::Nothing)
+        sending(self.alloc, ask, self.seen_round, Change::Nothing)
     }
 }
