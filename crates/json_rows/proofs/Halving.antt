@@ -13,13 +13,19 @@ halved : (limit number digits exponent : ℕ) → limit ≤ number → digits < 
 halved limit number digits zero le lt is = absurd (let same : number ≡ digits = is ∙ mul-one digits in omega (arith, le, lt, same))
 halved limit number digits (suc exponent) le lt is = (digits * 2 ^ exponent, is ∙ twice digits exponent, (digits, exponent, lt, refl))
 
+pub below_is : (limit number : ℕ) → number < limit → IsExactBelow limit number
+below_is limit number lt = (number, 0, lt, sym (mul-one number))
+
+pub doubled_is : (limit number : ℕ) → IsExactBelow limit number → IsExactBelow limit (2 * number)
+doubled_is limit number (digits, exponent, lt, is) = (digits, suc exponent, lt, ap (λ (n : ℕ). 2 * n) is ∙ sym (twice digits exponent))
+
 pub even_is : (limit half : ℕ) → limit ≤ 2 * half → (IsExactBelow limit (2 * half) ↔ IsExactBelow limit half)
 even_is limit half le = (
   λ (digits, exponent, lt, is).
       let it = halved limit (2 * half) digits exponent le lt is in
       let same : it.0 ≡ half = (let twice : 2 * half ≡ 2 * it.0 = it.1 in omega (arith, twice)) in
       subst (IsExactBelow limit) same it.2,
-  λ (digits, exponent, lt, is). (digits, suc exponent, lt, ap (λ (n : ℕ). 2 * n) is ∙ sym (twice digits exponent)),
+  λ is. doubled_is limit half is,
 )
 
 pub odd_is_not : (limit half : ℕ) → limit ≤ 2 * half + 1 → IsExactBelow limit (2 * half + 1) → ⊥

@@ -77,6 +77,80 @@ fn texts_that_are_no_floats_are_refused(rt: HostRuntime) -> Result<(), Fail> {
     Ok(())
 }
 
+/// A table whose second column has floats of this precision.
+fn floats(alloc: Global, precision: Precision) -> Result<Schema, AllocError> {
+    let first = plain(alloc, "a", Ty::Utf8)?;
+    let second = plain(alloc, "b", Ty::FloatingPoint { precision })?;
+    both(alloc, first, second)
+}
+
+/// What is told of this number in the second column.
+fn fault_of_number(
+    alloc: Global,
+    schema: &Schema,
+    number: &str,
+) -> Result<Option<JsonFault>, Fail> {
+    let line = format!(in alloc; "{{\"b\":{number}}}\n")?;
+    Ok(fault_of(alloc, schema, line.as_bytes()))
+}
+
+#[test]
+fn whole_numbers_that_no_float_of_eight_bytes_is_are_refused(rt: HostRuntime) -> Result<(), Fail> {
+    let alloc = rt.alloc();
+    let schema = floats(alloc, Precision::Double)?;
+    // 2^53 + 1 and its negative, 2^54 + 2, 2^63 - 1 and 2^64 - 1.
+    for number in [
+        "9007199254740993",
+        "-9007199254740993",
+        "18014398509481986",
+        "9223372036854775807",
+        "18446744073709551615",
+    ] {
+        assert!(rt;
+            fault_of_number(alloc, &schema, number)? == of_second(1, CellFault::OutOfRange),
+            "a number that no float is"
+        );
+    }
+    // 2^53 - 1, 2^53, 2^53 + 2, -2^63, 2^63, 2^64 - 2^11, and a number with a point.
+    for number in [
+        "0",
+        "9007199254740991",
+        "9007199254740992",
+        "9007199254740994",
+        "-9223372036854775808",
+        "9223372036854775808",
+        "18446744073709549568",
+        "9007199254740993.0",
+    ] {
+        assert!(rt;
+            fault_of_number(alloc, &schema, number)?.is_none(),
+            "a number that a float is"
+        );
+    }
+    Ok(())
+}
+
+#[test]
+fn whole_numbers_that_no_float_of_four_bytes_is_are_refused(rt: HostRuntime) -> Result<(), Fail> {
+    let alloc = rt.alloc();
+    let schema = floats(alloc, Precision::Single)?;
+    // 2^24 + 1 and its negative, and 2^25 + 2.
+    for number in ["16777217", "-16777217", "33554434"] {
+        assert!(rt;
+            fault_of_number(alloc, &schema, number)? == of_second(1, CellFault::OutOfRange),
+            "a number that no float is"
+        );
+    }
+    // 2^24, 2^25 + 4, -2^53, and a number with a point.
+    for number in ["16777216", "33554436", "-9007199254740992", "16777217.0"] {
+        assert!(rt;
+            fault_of_number(alloc, &schema, number)?.is_none(),
+            "a number that a float is"
+        );
+    }
+    Ok(())
+}
+
 /// A batch of one float of eight bytes with these bits.
 fn of_bits(alloc: Global, bits: u64) -> Result<Batch, Fail> {
     match Column::from_sized(alloc, 8, &[Some(&bits.to_le_bytes())]) {

@@ -54,3 +54,26 @@ fn lines_that_want_a_schema_are_refused(rt: HostRuntime) -> Result<(), Fail> {
     assert!(rt; fault_of(alloc, "{\"a\":[]}\n") == Some(array), "an array");
     Ok(())
 }
+
+#[test]
+fn whole_numbers_beside_others_are_not_changed(rt: HostRuntime) -> Result<(), Fail> {
+    let alloc = rt.alloc();
+    let changed = JsonFault::Cell {
+        line: 2,
+        field: 0,
+        fault: CellFault::OutOfRange,
+    };
+    assert!(rt;
+        fault_of(alloc, "{\"a\":0.5}\n{\"a\":9007199254740993}\n") == Some(changed),
+        "a number that no float is"
+    );
+    assert!(rt;
+        are_written(
+            alloc,
+            "{\"a\":0.5}\n{\"a\":9007199254740994}\n",
+            "{\"a\":0.5}\n{\"a\":9007199254740994.0}\n"
+        ) == Ok(true),
+        "a number that a float is"
+    );
+    Ok(())
+}
