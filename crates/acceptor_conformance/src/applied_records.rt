@@ -40,12 +40,11 @@ fn make_room(acceptor: &mut Acceptor, before: &[Told]) -> Result<(), Fail>
 
 // Whether the record, applied behind those before, leaves what all of them leave.
 fn is_applied(acceptor: &mut Acceptor, list: &[Told], place: usize) -> Result<bool, Fail> {
-    let (before, from) = list.split_at(place);
-    let Some(told) = from.first() else {
+    if place >= list.len() {
         return Ok(false);
-    };
-    let next = record(*told)?;
-    make_room(acceptor, before)?;
+    }
+    let next = record(list[place])?;
+    make_room(acceptor, &list[..place])?;
     acceptor.apply(next);
     are_left(acceptor, &list[..place + 1], &NUMBERS)
 }
