@@ -64,7 +64,7 @@ pub fn keep_often<R: Files<File = File> + Alloc>(
 fn record_weight(told: &Record) -> u64 {
     match told {
         Record::Accepted(_, acceptance) => weight_of(acceptance.value.as_bytes()),
-        Record::Began(_) | Record::Promised(..) => 0,
+        Record::Began(_) | Record::Promised(..) | Record::PromisedFrom(..) => 0,
     }
 }
 
