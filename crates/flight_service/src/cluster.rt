@@ -103,9 +103,19 @@ pub fn start_nodes<R: Wait, S: Stable + Drop, J: Beginning, M: Retention, const 
     seats: Vec<Mutex<Seat<S, J, M>>>,
     journal: Journal<J, M>,
 ) -> Result<Started<N, S, J, M>, ServiceFault> {
-    let Ok(seats) = <[Mutex<Seat<S, J, M>>; N]>::try_from(seats) else {
-        return Err(ServiceFault::Members);
-    };
+    match <[Mutex<Seat<S, J, M>>; N]>::try_from(seats) {
+        Ok(seats) => start_seats(rt, alloc, seats, journal),
+        Err(_) => Err(ServiceFault::Members),
+    }
+}
+
+// The cluster of these seats, which are as many as it has nodes.
+fn start_seats<R: Wait, S: Stable + Drop, J: Beginning, M: Retention, const N: usize>(
+    rt: &R,
+    alloc: Global,
+    seats: [Mutex<Seat<S, J, M>>; N],
+    journal: Journal<J, M>,
+) -> Result<Started<N, S, J, M>, ServiceFault> {
     let Some(cluster) = Cluster::new(rt, seats, journal) else {
         return Err(ServiceFault::Members);
     };
