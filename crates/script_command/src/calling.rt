@@ -8,7 +8,7 @@ ghost use Rattle.script_command.specs.Playing.{WritesLines};
 
 use crate::fault::{Unplayed, not_answered};
 use grpc_frames::transfer::put;
-use run_files::Call;
+use run_files::ScriptCall;
 use script_calls::{Told, ask, asks_again};
 use std::alloc::Global;
 use std::io::{BufReader, BufWriter, Write};
